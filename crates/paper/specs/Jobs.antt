@@ -1,0 +1,159 @@
+-- The seven jobs. Each definition gives, for every input, the refusal's number and everything that the job answers and
+-- leaves in each lent place. Rows of the refusal table stand in the table's order, lowest number first.
+use mathlib.Core.Bool.{Bool, true, false, _&&_}
+use mathlib.Core.List.{List, [], _∷_, _++_}
+use Prim.Native.Nat.{ℕ, zero, suc, _+_, _*_, _-_, _/_, _^_, min}
+use lib.Dec.{leb, eqb}
+use lib.IntN.{ℤ}
+use lib.ListN.{length, take}
+use Rattle.paper.specs.Sizes.{sizeIn, levelsIn, planesIn, numbersIn, mostBits, unless, judged}
+use Rattle.paper.specs.Lists.{over}
+use Rattle.paper.specs.Square.{numbersOf, greysOf, pictured}
+use Rattle.paper.specs.Walk.{planeCount, codeOf, decodeOf, Settled}
+use Rattle.paper.specs.Bits.{bits, laid}
+use Rattle.paper.specs.Block.{isLabel, byteAt, payloadBytes, payloadStart, blockRefusal}
+use Rattle.paper.specs.Record.{blocksFor, recordOf, wholeBlocks, blockAt, turnRefusal, Run, runOf, bitsKept, payloadKept}
+
+-- rows 1 and 2, which five jobs judge first
+unfoldable pub sizesRefusal : ℕ → ℕ → ℕ → ℕ
+sizesRefusal k L later = unless 1 (sizeIn k) (unless 2 (levelsIn k L) later)
+
+-- a slice of S² places
+abbrev pub isSquare : ℕ → ℕ → Bool
+isSquare k places = eqb places (4 ^ k)
+
+-- ---- forward: fills the wavelet numbers, gives n
+pub record Forward : Type 0 where
+  pub refusal : ℕ
+  pub n : ℕ
+  pub numbers : List ℤ
+
+unfoldable pub forwardRefusal : ℕ → ℕ → List ℕ → List ℤ → ℕ
+forwardRefusal k L picture numbers = sizesRefusal k L (unless 3 (isSquare k (length picture) && isSquare k (length numbers)) 0)
+
+unfoldable pub forwardJob : ℕ → ℕ → List ℕ → List ℤ → Forward
+forwardJob k L picture numbers =
+    judged (forwardRefusal k L picture numbers)
+    (λ r. record { refusal = r; n = 0; numbers = numbers })
+    (record { refusal = 0; n = planeCount (numbersOf k L picture); numbers = numbersOf k L picture })
+
+-- ---- coding: the first min(limit, 8 × bytes lent, total) bits, that count and n
+pub record Coding : Type 0 where
+  pub refusal : ℕ
+  pub written : ℕ
+  pub n : ℕ
+  pub bytes : List ℕ
+
+unfoldable pub codingRefusal : ℕ → ℕ → List ℤ → ℕ
+codingRefusal k L numbers = sizesRefusal k L (unless 3 (isSquare k (length numbers)) (unless 4 (numbersIn numbers) 0))
+
+-- the bits written
+unfoldable pub writtenOf : ℕ → ℕ → List ℤ → ℕ → List ℕ → List Bool
+writtenOf k L numbers limit bytes = take (min limit (8 * length bytes)) (codeOf k L numbers)
+
+unfoldable pub codingJob : ℕ → ℕ → List ℤ → ℕ → List ℕ → Coding
+codingJob k L numbers limit bytes =
+    judged (codingRefusal k L numbers)
+    (λ r. record { refusal = r; written = 0; n = 0; bytes = bytes })
+    (record {
+      refusal = 0;
+      written = length (writtenOf k L numbers limit bytes);
+      n = planeCount numbers;
+      bytes = laid (writtenOf k L numbers limit bytes) bytes;
+    })
+
+-- ---- decoding, of the first b bits: writes all S² numbers, gives unfinished planes and bits read
+pub record Decoding : Type 0 where
+  pub refusal : ℕ
+  pub unfinished : ℕ
+  pub read : ℕ
+  pub numbers : List ℤ
+
+unfoldable pub decodingRefusal : ℕ → ℕ → ℕ → List ℤ → List ℕ → ℕ → ℕ
+decodingRefusal k L n numbers bytes b =
+    sizesRefusal k L (unless 3 (isSquare k (length numbers)) (unless 5 (planesIn n) (unless 6 (leb b (8 * length bytes)) 0)))
+
+-- whatever the number slice held before, it ends with what the bits have settled
+abbrev pub settledJob : Settled → Decoding
+settledJob s = record { refusal = 0; unfinished = s .unfinished; read = s .read; numbers = s .numbers }
+
+unfoldable pub decodingJob : ℕ → ℕ → ℕ → List ℤ → List ℕ → ℕ → Decoding
+decodingJob k L n numbers bytes b =
+    judged (decodingRefusal k L n numbers bytes b)
+    (λ r. record { refusal = r; unfinished = 0; read = 0; numbers = numbers })
+    (settledJob (decodeOf k L n (take b (bits bytes))))
+
+-- ---- inverse: fills the picture; the working room ends with the greys before they are set into 0 to 255, in Z order
+pub record Inverse : Type 0 where
+  pub refusal : ℕ
+  pub picture : List ℕ
+  pub room : List ℤ
+
+unfoldable pub inverseRefusal : ℕ → ℕ → List ℤ → List ℕ → List ℤ → ℕ
+inverseRefusal k L numbers picture room =
+    sizesRefusal k L
+    (unless 3 (isSquare k (length numbers) && isSquare k (length picture) && isSquare k (length room)) (unless 4 (numbersIn numbers) 0))
+
+unfoldable pub inverseJob : ℕ → ℕ → List ℤ → List ℕ → List ℤ → Inverse
+inverseJob k L numbers picture room =
+    judged (inverseRefusal k L numbers picture room)
+    (λ r. record { refusal = r; picture = picture; room = room })
+    (record { refusal = 0; picture = pictured k (greysOf k L numbers); room = greysOf k L numbers })
+
+-- ---- record writing, of b bits: the record's blocks at the front of the room, and their count
+pub record Writing : Type 0 where
+  pub refusal : ℕ
+  pub blocks : ℕ
+  pub room : List ℕ
+
+unfoldable pub writingRefusal : ℕ → ℕ → ℕ → List ℕ → List ℕ → ℕ → List ℕ → ℕ
+writingRefusal k L n label bytes b room =
+    sizesRefusal k L
+    (unless 5 (planesIn n)
+    (unless 6 (leb b (8 * length bytes) && leb b (mostBits k n) && leb (512 * blocksFor b) (length room))
+    (unless 7 (isLabel label) 0)))
+
+unfoldable pub writingJob : ℕ → ℕ → ℕ → List ℕ → List ℕ → ℕ → List ℕ → Writing
+writingJob k L n label bytes b room =
+    judged (writingRefusal k L n label bytes b room)
+    (λ r. record { refusal = r; blocks = 0; room = room })
+    (record { refusal = 0; blocks = blocksFor b; room = over (recordOf k L n label (take b (bits bytes))) room })
+
+-- ---- record reading: k, L, n, blocks kept, total bits, the number that ended the run; kept payload at the front of the room
+pub record Read : Type 0 where
+  pub refusal : ℕ
+  pub k : ℕ
+  pub L : ℕ
+  pub n : ℕ
+  pub blocks : ℕ
+  pub bits : ℕ
+  pub ended : ℕ
+  pub room : List ℕ
+
+-- if block 0 can't be kept the call is refused by its number
+unfoldable pub readingRefusal : List ℕ → List ℕ → List ℕ → ℕ
+readingRefusal s label room =
+    unless 6 (leb 512 (length s) && leb (payloadBytes payloadStart * wholeBlocks s) (length room))
+    (unless 7 (isLabel label) (turnRefusal s label 0))
+
+abbrev pub readRun : List ℕ → List ℕ → Run → Read
+readRun s room run = record {
+  refusal = 0;
+  k = byteAt s 1;
+  L = byteAt s 2;
+  n = byteAt s 3;
+  blocks = run .kept;
+  bits = bitsKept s (run .kept);
+  ended = run .ended;
+  room = over (payloadKept s (run .kept)) room;
+}
+
+unfoldable pub readingJob : List ℕ → List ℕ → List ℕ → Read
+readingJob s label room =
+    judged (readingRefusal s label room)
+    (λ r. record { refusal = r; k = 0; L = 0; n = 0; blocks = 0; bits = 0; ended = 0; room = room })
+    (readRun s room (runOf s label))
+
+-- ---- single-block check: 0, or 6, 8 or 9; it doesn't judge 10
+abbrev pub checkJob : List ℕ → ℕ
+checkJob block = blockRefusal block
