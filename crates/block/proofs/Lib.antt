@@ -1,0 +1,2 @@
+-- Laws of a block: how its parts are copied into place.
+pub mod Copies
