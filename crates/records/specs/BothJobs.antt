@@ -1,37 +1,32 @@
 -- The writing job and the reading job together: what one wrote, the other gives back.
-use mathlib.Core.Path.{_≡_, refl, sym, ap, _∙_}
-use mathlib.Core.Bool.{Bool, true, false, _&&_, and-eq-true-iff}
-use mathlib.Core.List.{List, _++_}
-use Prim.Native.Nat.{ℕ, suc, _+_, _*_, _-_, _/_, _^_, _<_, _≤_, min, max}
-use native.Mathlib.Nat.{mul-le-mul, pow-le-pow-right}
+use mathlib.Core.Path.{_≡_, ap, _∙_}
+use mathlib.Core.Bool.{true, _&&_}
+use mathlib.Core.List.{List}
+use Prim.Native.Nat.{ℕ, _*_, _-_, _/_, _^_, _≤_, min}
+use native.Mathlib.Nat.{mul-le-mul}
 use native.Mathlib.Omega.{arith}
 use lib.Dec.{leb}
-use lib.ListN.{length, take, drop, length-take}
+use lib.ListN.{length, take}
 use lib.Seq.{length-take-le, take-append-le}
 use borrow.Author.Tests.{leb-true}
-use Rattle.paper.specs.Sizes.{sizeIn, levelsIn, planesIn, mostBits, unless, judged}
+use Rattle.sizes.proofs.Ranges.{both-first, both-second, area-most, planes-few}
+use Rattle.sizes.proofs.Refusals.{row-passed, rows-left, size-accepted, levels-accepted, sizes-left, done-is}
+use Rattle.bits.proofs.OneBit.{bits-length}
+use Rattle.paper.specs.Sizes.{sizeIn, levelsIn, planesIn, mostBits}
 use Rattle.paper.specs.Lists.{over}
 use Rattle.paper.specs.Bits.{bits}
 use Rattle.paper.specs.Block.{isLabel}
 use Rattle.paper.specs.Record.{blocksFor, recordOf}
-use Rattle.paper.specs.Jobs.{sizesRefusal, Writing, writingRefusal, writingJob, readingJob}
+use Rattle.paper.specs.Jobs.{writingRefusal, writingJob, readingJob}
 use Rattle.records.specs.Written.{Writable}
 use Rattle.records.specs.ReadBack.{readBack, length-record, read-cut}
 
-bits-length : (s : List ℕ) → length (bits s) ≡ 8 * length s
-bits-length s = ?
-
--- a row that does not apply
-row-passed : (r : ℕ) (b : Bool) (later : ℕ) → unless (suc r) b later ≡ 0 → (b ≡ true) × (later ≡ 0)
-row-passed r true later h = (refl, h)
-row-passed r false later h = (cc, cc)
-
 -- the most bits of a coding are fewer than numbered blocks hold
 most-bits : (k n : ℕ) → sizeIn k ≡ true → planesIn n ≡ true → mostBits k n ≤ 3936 * 65536
-unfolding sizeIn planesIn mostBits
+unfolding mostBits
 most-bits k n size planes =
-    let small : 4 ^ k ≤ 65536 = pow-le-pow-right (omega arith) (leb-true k 8 (and-eq-true-iff (leb 3 k) (leb k 8) .0 size .1)) in
-    let product : n * (4 * 4 ^ k - 1) ≤ 18 * (4 * 65536 - 1) = mul-le-mul {m₂ = 4 * 65536 - 1} (leb-true n 18 planes) (omega arith) in
+    let area : 4 ^ k ≤ 65536 = area-most k size in
+    let product : n * (4 * 4 ^ k - 1) ≤ 18 * (4 * 65536 - 1) = mul-le-mul {m₂ = 4 * 65536 - 1} (planes-few n planes) (omega arith) in
     omega arith
 
 -- what an accepted call of the writing job is given
@@ -46,26 +41,24 @@ pub record Accepted (k L n : ℕ) (label bytes : List ℕ) (b : ℕ) (room : Lis
 
 module _ (k L n : ℕ) (label bytes : List ℕ) (b : ℕ) (room : List ℕ) (passed : writingRefusal k L n label bytes b room ≡ 0) where
   pub accepted : Accepted k L n label bytes b room
-  unfolding writingRefusal sizesRefusal
+  unfolding writingRefusal
   accepted =
-      let one = row-passed 0 (sizeIn k) _ passed in
-      let two = row-passed 1 (levelsIn k L) _ (one .1) in
-      let five = row-passed 4 (planesIn n) _ (two .1) in
       let bytes-hold = leb b (8 * length bytes) in
       let walk-has = leb b (mostBits k n) in
       let room-holds = leb (512 * blocksFor b) (length room) in
-      let six = row-passed 5 (bytes-hold && walk-has && room-holds) _ (five .1) in
-      let seven = row-passed 6 (isLabel label) 0 (six .1) in
-      let all = and-eq-true-iff (bytes-hold && walk-has) room-holds .0 (six .0) in
-      let both = and-eq-true-iff bytes-hold walk-has .0 (all .0) in
+      let five = sizes-left k L _ passed in
+      let six = rows-left 4 (planesIn n) _ five in
+      let seven = rows-left 5 (bytes-hold && walk-has && room-holds) _ six in
+      let all = row-passed 5 (bytes-hold && walk-has && room-holds) _ six in
+      let both = both-first (bytes-hold && walk-has) room-holds all in
       record {
-        size = one .0;
-        levels = two .0;
-        planes = five .0;
-        lent = leb-true _ _ (both .0);
-        bound = leb-true _ _ (both .1);
-        fits = leb-true _ _ (all .1);
-        labelled = seven .0;
+        size = size-accepted k L _ passed;
+        levels = levels-accepted k L _ passed;
+        planes = row-passed 4 (planesIn n) _ five;
+        lent = leb-true _ _ (both-first bytes-hold walk-has both);
+        bound = leb-true _ _ (both-second bytes-hold walk-has both);
+        fits = leb-true _ _ (both-second (bytes-hold && walk-has) room-holds all);
+        labelled = row-passed 6 (isLabel label) 0 seven;
       }
 
   pub length-given : length (take b (bits bytes)) ≡ b
@@ -83,7 +76,7 @@ module _ (k L n : ℕ) (label bytes : List ℕ) (b : ℕ) (room : List ℕ) (pas
   -- the record stands at the front of the room
   pub written : writingJob k L n label bytes b room ≡ record { refusal = 0; blocks = blocksFor b; room = over (recordOf k L n label (take b (bits bytes))) room }
   unfolding writingJob
-  written = rw passed
+  written = done-is _ _ _ passed
 
   -- any first part of it with a whole block, read with its label into enough room, gives back what was written, as much as its whole blocks hold
   pub read-written : (m : ℕ) (lent : List ℕ) → 512 ≤ m → m ≤ 512 * blocksFor b → 492 * (m / 512) ≤ length lent

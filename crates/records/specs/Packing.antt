@@ -2,27 +2,16 @@
 use mathlib.Core.Path.{_≡_, refl, sym, ap, _∙_}
 use mathlib.Core.Bool.{Bool, true, false}
 use mathlib.Core.List.{List, [], _∷_, _++_}
-use Prim.Native.Nat.{ℕ, zero, suc, _+_, _*_, _-_, _/_, _<_, _≤_}
+use Prim.Native.Nat.{ℕ, zero, suc, _+_, _*_, _-_, _≤_}
 use native.Mathlib.Nat.{zero-add, mul-suc, mul-zero, mul-assoc}
 use native.Mathlib.Omega.{arith}
 use lib.ListN.{length, take, drop, replicate, length-append, length-replicate}
 use lib.Seq.{drop-drop, drop-nil, take-nil, take-append-seam, drop-append-seam}
 use Rattle.paper.specs.Lists.{joined}
+use Rattle.bits.proofs.Worth.{byteOf-nil}
+use Rattle.bits.proofs.Packing.{bits-packed}
 use Rattle.paper.specs.Walk.{worth}
 use Rattle.paper.specs.Bits.{bits, byteOf, packed, allZero}
-
-pub length-packed : (n : ℕ) (l : List Bool) → length (packed n l) ≡ n
-unfolding packed
-length-packed zero l = refl
-length-packed (suc n) l = ap suc (length-packed n (drop 8 l))
-
-bits-packed : (n : ℕ) (l : List Bool) → length l ≡ 8 * n → bits (packed n l) ≡ l
-bits-packed n l h = ?
-
-byteOf-nil : (k : ℕ) → byteOf k [] ≡ 0
-unfolding byteOf
-byteOf-nil zero = refl
-byteOf-nil (suc k) = refl
 
 -- the first bytes
 pub take-packed : (m n : ℕ) (l : List Bool) → m ≤ n → take m (packed n l) ≡ packed m l

@@ -1,30 +1,25 @@
 -- What was written is read back: whole, and cut to any first part with at least one whole block.
 use mathlib.Core.Path.{_≡_, refl, sym, ap, _∙_}
-use mathlib.Core.Bool.{Bool, true, false}
+use mathlib.Core.Bool.{Bool, true}
 use mathlib.Core.List.{List, [], _∷_, _++_, append-nil}
-use Prim.Native.Nat.{ℕ, zero, suc, _+_, _*_, _-_, _/_, _<_, _≤_, min, max}
+use Prim.Native.Nat.{ℕ, zero, suc, _*_, _-_, _/_, _<_, _≤_, min}
 use native.Mathlib.Decide.{decLe}
 use native.Mathlib.Nat.{zero-add}
 use native.Mathlib.Omega.{arith}
-use lib.Dec.{eqb}
-use lib.ListN.{length, take, drop, getD, length-take, length-drop}
+use lib.ListN.{length, take, drop, getD, length-take}
 use lib.Seq.{getD-take, take-take, take-all, take-length, length-take-le}
 use borrow.Author.Tests.{eq-eqb, le-leb}
 use Rattle.paper.specs.Lists.{joined, parts, over}
 use Rattle.paper.specs.Bits.{bits, packed}
-use Rattle.paper.specs.Block.{sameBytes, byteAt, edition, payloadStart, payloadBits, countOf, payloadOf, blockRefusal}
-use Rattle.paper.specs.Record.{blocksFor, bitsOfBlock, blockOf, recordOf, wholeBlocks, blockAt, inTurn, turnRefusal, isFull, Run, runFrom, runOf, bitsKept, payloadKept}
+use Rattle.paper.specs.Block.{byteAt, edition, payloadStart, countOf, payloadOf}
+use Rattle.paper.specs.Record.{blocksFor, blockOf, recordOf, wholeBlocks, blockAt, inTurn, turnRefusal, isFull, runFrom, runOf, bitsKept, payloadKept}
 use Rattle.paper.specs.Sizes.{judged}
 use Rattle.paper.specs.Jobs.{Read, readingRefusal, readRun, readingJob}
-use Rattle.records.specs.Parts.{length-joined, part-joined, take-joined, joined-same}
+use Rattle.block.proofs.Blocks.{same-bytes-refl}
+use Rattle.records.specs.Parts.{length-joined, part-joined, joined-same}
 use Rattle.records.specs.Kept.{all-kept}
 use Rattle.records.specs.Packing.{take-packed, drop-take, packed-take, packed-joined, bits-back}
 use Rattle.records.specs.Written.{Writable, length-of-block, length-block, front-of-block, label-of-block, count-of-block, payload-of-block, number-of-block, block-passes}
-
-same-bytes : (s : List ℕ) → sameBytes s s ≡ true
-unfolding sameBytes
-same-bytes [] = refl
-same-bytes (v ∷ s) = rw (eq-eqb v v refl) (same-bytes s)
 
 -- the whole blocks of the first m bytes of a record
 abbrev pub blocksIn : List Bool → ℕ → ℕ
@@ -71,9 +66,18 @@ module _ (k L n : ℕ) (label : List ℕ) (l : List Bool) (w : Writable k L n la
     pub written-turn : (i : ℕ) → i < j → turnRefusal s label i ≡ 0
     unfolding turnRefusal inTurn
     written-turn i h =
-        rw (same i h, same 0 some, block-passes k L n label l w i, number-of-block k L n label l w i (numbered i h), eq-eqb i i refl,
-        front-of-block k L n label l w i, front-of-block k L n label l w 0, same-bytes (edition ∷ k ∷ L ∷ n ∷ label),
-        label-of-block k L n label l w i, same-bytes label)
+        rw (
+          same i h,
+          same 0 some,
+          block-passes k L n label l w i,
+          number-of-block k L n label l w i (numbered i h),
+          eq-eqb i i refl,
+          front-of-block k L n label l w i,
+          front-of-block k L n label l w 0,
+          same-bytes-refl (edition ∷ k ∷ L ∷ n ∷ label),
+          label-of-block k L n label l w i,
+          same-bytes-refl label,
+        )
 
     pub written-full : (i : ℕ) → suc i < j → isFull s i ≡ true
     written-full i h = eq-eqb _ _ (ap countOf (same i (omega arith)) ∙ count-of-block k L n label l w i ∙ length-of-block l i ∙ omega arith)
