@@ -7,6 +7,10 @@ use native.Mathlib.Omega.{arith}
 use native.Mathlib.Decide.{decLt}
 use Rattle.paper.specs.Record.{turnRefusal, isFull, Run, runFrom}
 
+-- of the blocks from i on the last kept one, if there is one, is full
+abbrev pub LastFull : List ℕ → ℕ → ℕ → Type 0
+LastFull s i kept = (j : ℕ) → i ≤ j → suc j ≡ kept → isFull s j ≡ true
+
 -- a run from block i on, where `left` whole blocks are left: what it keeps, and why it ends
 pub record Longest (s label : List ℕ) (left i : ℕ) (run : Run) : Type 0 where
   pub from : i ≤ run .kept
@@ -14,12 +18,12 @@ pub record Longest (s label : List ℕ) (left i : ℕ) (run : Run) : Type 0 wher
   -- nothing is kept of a block that fails, and a short block is kept only as the last
   pub passes : (j : ℕ) → i ≤ j → j < run .kept → turnRefusal s label j ≡ 0
   pub full : (j : ℕ) → i ≤ j → suc j < run .kept → isFull s j ≡ true
-  -- a whole block behind full ones is left out only if it fails, and its number is given
-  pub next : run .kept < i + left → ((j : ℕ) → i ≤ j → j < run .kept → isFull s j ≡ true) → turnRefusal s label (run .kept) ≡ run .ended
-  pub fails : run .kept < i + left → ((j : ℕ) → i ≤ j → j < run .kept → isFull s j ≡ true) → run .ended ≡ 0 → ⊥
+  -- a whole block is left out behind a full one only if it fails, and its number is given
+  pub next : run .kept < i + left → LastFull s i (run .kept) → turnRefusal s label (run .kept) ≡ run .ended
+  pub fails : run .kept < i + left → LastFull s i (run .kept) → run .ended ≡ 0 → ⊥
   -- 0 if no block ended the run or if a short block ended it
   pub none : run .kept ≡ i + left → run .ended ≡ 0
-  pub short : (j : ℕ) → i ≤ j → j < run .kept → isFull s j ≡ false → run .ended ≡ 0
+  pub short : (j : ℕ) → i ≤ j → suc j ≡ run .kept → isFull s j ≡ false → run .ended ≡ 0
 
 module _ (s label : List ℕ) where
   below : {i j : ℕ} → i ≤ j → j < i → ⊥
@@ -52,8 +56,8 @@ module _ (s label : List ℕ) where
     to = omega arith;
     passes = λ j h k. at-or-behind (λ j. turnRefusal s label j ≡ 0) e j h (λ m. absurd (below m k));
     full = λ j h k. absurd (below h (omega arith));
-    next = λ h a. never (a i (omega arith) (omega arith)) f;
-    fails = λ h a. never (a i (omega arith) (omega arith)) f;
+    next = λ h a. never (a i (omega arith) refl) f;
+    fails = λ h a. never (a i (omega arith) refl) f;
     none = λ h. refl;
     short = λ j h k m. refl;
   }
@@ -68,7 +72,7 @@ module _ (s label : List ℕ) where
     next = λ h a. e;
     fails = λ h a m. omega arith;
     none = λ h. absurd (below {i = i + 1} {j = i} (omega arith) (omega arith));
-    short = λ j h k m. absurd (below h k);
+    short = λ j h k m. absurd (below h (omega arith));
   }
 
   pub longest : (left i : ℕ) → Longest s label left i (runFrom s label left i)
@@ -100,7 +104,7 @@ module _ (s label : List ℕ) where
       let g = longest left i in
       let run = runFrom s label left i in
       let e : run .kept ≡ i + left = elim (decLt (run .kept) (i + left)) [
-        | yes h ↦ let a : (j : ℕ) → i ≤ j → j < run .kept → isFull s j ≡ true = λ j m k. full j (omega arith) in absurd (g .fails h a (sym (g .next h a) ∙ pass (run .kept) h))
+        | yes h ↦ let a : LastFull s i (run .kept) = λ j m k. full j (omega arith) in absurd (g .fails h a (sym (g .next h a) ∙ pass (run .kept) h))
         | no h ↦ omega (arith, g .to)
       ] in
       λ t. record { kept = e t; ended = g .none e t }

@@ -29,7 +29,25 @@ blocksIn l m = min (m / 512) (blocksFor (length l))
 abbrev pub bitsIn : List Bool → ℕ → ℕ
 bitsIn l j = min (length l) (3936 * j)
 
--- what reading them gives
+-- all blocks hold all bits
+pub every-bit : (l : List Bool) → bitsIn l (blocksFor (length l)) ≡ length l
+every-bit l = omega arith
+
+-- the bits of what was read are the first of those that were written
+pub bits-read : (l : List Bool) (j : ℕ) → take (bitsIn l j) (bits (packed (parts (bitsIn l j) 8) (take (bitsIn l j) l))) ≡ take (bitsIn l j) l
+bits-read l j =
+    let b = bitsIn l j in
+    let e : length (take b l) ≡ b = length-take-le b l (omega arith) in
+    ap (λ a. take a (bits (packed (parts b 8) (take b l)))) (sym e) ∙ bits-back (parts b 8) (take b l) (omega arith)
+
+-- what is kept of the record of l where the whole blocks of s are its first j
+pub record KeptBack (l : List Bool) (label s : List ℕ) (j : ℕ) : Type 0 where
+  pub run : runOf s label ≡ record { kept = j; ended = 0 }
+  pub count : bitsKept s j ≡ bitsIn l j
+  pub payload : payloadKept s j ≡ packed (parts (bitsIn l j) 8) (take (bitsIn l j) l)
+  pub again : take (bitsIn l j) (bits (payloadKept s j)) ≡ take (bitsIn l j) l
+
+-- what the reading job gives of it
 abbrev pub readBack : ℕ → ℕ → ℕ → List Bool → List ℕ → ℕ → Read
 readBack k L n l room j = record {
   refusal = 0;
@@ -105,6 +123,14 @@ module _ (k L n : ℕ) (label : List ℕ) (l : List Bool) (w : Writable k L n la
     pub written-run : wholeBlocks s ≡ j → runOf s label ≡ record { kept = j; ended = 0 }
     written-run e = ap (λ left. runFrom s label left 0) e ∙ all-kept s label j 0 (λ i h. written-turn i (omega arith)) (λ i h. written-full i (omega arith)) ∙ ap (λ kept. record { kept = kept; ended = 0 }) (zero-add j)
 
+    pub written-kept : wholeBlocks s ≡ j → KeptBack l label s j
+    written-kept e = record {
+      run = written-run e;
+      count = written-bits;
+      payload = written-payload;
+      again = ap (λ p. take (bitsIn l j) (bits p)) written-payload ∙ bits-read l j;
+    }
+
     accepted : (room : List ℕ) → wholeBlocks s ≡ j → 492 * j ≤ length room → readingRefusal s label room ≡ 0
     unfolding readingRefusal
     accepted room e h = rw (le-leb 512 (length s) (omega arith), le-leb (492 * (length s / 512)) (length room) (omega arith), w .labelled, written-turn 0 some)
@@ -139,8 +165,20 @@ module _ (k L n : ℕ) (label : List ℕ) (l : List Bool) (w : Writable k L n la
       ∙ ap (λ s. take 512 (drop (512 * i) s)) (sym (append-nil (recordOf k L n label l)))
       ∙ block-of-record [] i (omega arith)
 
+  pub kept-cut : (m : ℕ) → 512 ≤ m → KeptBack l label (take m (recordOf k L n label l)) (blocksIn l m)
+  kept-cut m h = written-kept (take m (recordOf k L n label l)) (blocksIn l m) (omega arith) (omega arith) (cut-same m) (cut-is m)
+
   pub read-cut : (m : ℕ) (room : List ℕ) → 512 ≤ m → 492 * blocksIn l m ≤ length room → readingJob (take m (recordOf k L n label l)) label room ≡ readBack k L n l room (blocksIn l m)
   read-cut m room h g = read-front (take m (recordOf k L n label l)) (blocksIn l m) (omega arith) (omega arith) (cut-same m) room (cut-is m) g
+
+  whole-is : wholeBlocks (recordOf k L n label l) ≡ blocksFor (length l)
+  whole-is = omega (arith, length-record)
+
+  whole-same : (i : ℕ) → i < blocksFor (length l) → blockAt (recordOf k L n label l) i ≡ blockOf k L n label l i
+  whole-same i h = ap (λ s. blockAt s i) (sym (append-nil (recordOf k L n label l))) ∙ block-of-record [] i h
+
+  pub kept-whole : KeptBack l label (recordOf k L n label l) (blocksFor (length l))
+  kept-whole = written-kept (recordOf k L n label l) (blocksFor (length l)) (omega arith) (omega arith) whole-same whole-is
 
   pub read-whole : (room : List ℕ) → 492 * blocksFor (length l) ≤ length room → readingJob (recordOf k L n label l) label room ≡ record {
     refusal = 0;
@@ -153,26 +191,14 @@ module _ (k L n : ℕ) (label : List ℕ) (l : List Bool) (w : Writable k L n la
     room = over (packed (parts (length l) 8) l) room;
   }
   read-whole room h =
-      let all = recordOf k L n label l in
-      let blocks = blocksFor (length l) in
-      let same : (i : ℕ) → i < blocks → blockAt all i ≡ blockOf k L n label l i = λ i g. ap (λ s. blockAt s i) (sym (append-nil all)) ∙ block-of-record [] i g in
-      let count : wholeBlocks all ≡ blocks = omega (arith, length-record) in
-      let every : bitsIn l blocks ≡ length l = omega arith in
-      read-front all blocks (omega arith) (omega arith) same room count h
+      read-front (recordOf k L n label l) (blocksFor (length l)) (omega arith) (omega arith) whole-same room whole-is h
       ∙ (λ t. record {
         refusal = 0;
         k = k;
         L = L;
         n = n;
-        blocks = blocks;
-        bits = every t;
+        blocks = blocksFor (length l);
+        bits = every-bit l t;
         ended = 0;
-        room = over (packed (parts (every t) 8) ((ap (λ b. take b l) every ∙ take-length l) t)) room;
+        room = over (packed (parts (every-bit l t) 8) ((ap (λ b. take b l) (every-bit l) ∙ take-length l) t)) room;
       })
-
--- the bits of what was read are the first of those that were written
-pub bits-read : (l : List Bool) (j : ℕ) → take (bitsIn l j) (bits (packed (parts (bitsIn l j) 8) (take (bitsIn l j) l))) ≡ take (bitsIn l j) l
-bits-read l j =
-    let b = bitsIn l j in
-    let e : length (take b l) ≡ b = length-take-le b l (omega arith) in
-    ap (λ a. take a (bits (packed (parts b 8) (take b l)))) (sym e) ∙ bits-back (parts b 8) (take b l) (omega arith)
