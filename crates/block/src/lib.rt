@@ -1,10 +1,10 @@
 // A 512-byte block: made by value, and checked where it lies.
 ghost use mathlib.Core.Path.{_≡_};
 ghost use mathlib.Core.List.{_++_};
-ghost use Prim.Native.Nat.{_≤_};
+ghost use Prim.Native.Nat.{_+_, _<_, _≤_};
 ghost use lib.ListN.{length, take, drop, replicate};
 ghost use Rattle.paper.specs.Lists.{over};
-ghost use Rattle.paper.specs.Block.{edition, header, sealed};
+ghost use Rattle.paper.specs.Block.{edition, header, sealed, pairAt, sameBytes, labelCharacter, labelCharacters, isLabel};
 
 // Where the payload starts, and where the checks stand.
 const PAYLOAD: usize = 16;
@@ -80,4 +80,62 @@ pub fn made(
     ensures { λ r. ⌜ r ≡ sealed (header edition k levels n (now (label .entry)) number count ++ now (payload .entry)) ⌝ }
 {
     with_checks(with_payload(headed(k, levels, n, label, number, count), payload))
+}
+
+// Two bytes at place i, high byte first.
+pub fn pair_at(block: &[u8], i: usize) -> usize
+    requires { ⌜ i + 1 < length (now block) ⌝ }
+    ensures { λ r. ⌜ r ≡ pairAt (now (block .entry)) i ⌝ }
+{
+    (256 * sums::wide(block[i]) + sums::wide(block[i + 1])) as usize
+}
+
+// The same bytes, one for one.
+pub fn same_bytes(a: &[u8], b: &[u8]) -> bool
+    ensures { λ r. ⌜ r ≡ sameBytes (now (a .entry)) (now (b .entry)) ⌝ }
+{
+    if a.len() != b.len() {
+        return false;
+    }
+    let mut i = 0;
+    while i < a.len() {
+        if a[i] != b[i] {
+            return false;
+        }
+        i += 1;
+    }
+    true
+}
+
+// An ASCII digit.
+fn label_character(c: u8) -> bool
+    ensures { λ r. ⌜ r ≡ labelCharacter c ⌝ }
+{
+    if c < 48 {
+        return false;
+    }
+    c <= 57
+}
+
+fn label_characters(s: &[u8]) -> bool
+    ensures { λ r. ⌜ r ≡ labelCharacters (now (s .entry)) ⌝ }
+{
+    let mut i = 0;
+    while i < s.len() {
+        if !label_character(s[i]) {
+            return false;
+        }
+        i += 1;
+    }
+    true
+}
+
+// A label is eight characters.
+pub fn is_label(s: &[u8]) -> bool
+    ensures { λ r. ⌜ r ≡ isLabel (now (s .entry)) ⌝ }
+{
+    if s.len() != 8 {
+        return false;
+    }
+    label_characters(s)
 }
