@@ -2,3 +2,4 @@
 pub mod Copies
 pub mod Blocks
 pub mod Bytewise
+pub mod Judging
