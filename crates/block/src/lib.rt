@@ -4,8 +4,7 @@ ghost use mathlib.Core.List.{_++_};
 ghost use Prim.Native.Nat.{_+_, _<_, _≤_};
 ghost use lib.ListN.{length, take, drop, replicate};
 ghost use Rattle.paper.specs.Lists.{over};
-ghost use Rattle.paper.specs.Block.{edition, header, sealed, pairAt, sameBytes, labelCharacter, labelCharacters, isLabel, payloadStart, fieldsRight, checksRight};
-ghost use Rattle.paper.specs.Bits.{bits, allZero};
+ghost use Rattle.paper.specs.Block.{edition, header, sealed, payloadStart, fieldsRight, checksRight};
 ghost use Rattle.paper.specs.Jobs.{checkJob};
 
 // Where the payload starts, and where the checks stand.
@@ -88,80 +87,6 @@ pub fn made(
     with_checks(with_payload(headed(k, levels, n, label, number, count), payload))
 }
 
-// Two bytes at place i, high byte first.
-pub fn pair_at(block: &[u8], i: usize) -> usize
-    requires { ⌜ i + 1 < length (now block) ⌝ }
-    ensures { λ r. ⌜ r ≡ pairAt (now (block .entry)) i ⌝ }
-{
-    (256 * sums::wide(block[i]) + sums::wide(block[i + 1])) as usize
-}
-
-// The same bytes, one for one.
-pub fn same_bytes(a: &[u8], b: &[u8]) -> bool
-    ensures { λ r. ⌜ r ≡ sameBytes (now (a .entry)) (now (b .entry)) ⌝ }
-{
-    if a.len() != b.len() {
-        return false;
-    }
-    let mut i = 0;
-    while i < a.len() {
-        if a[i] != b[i] {
-            return false;
-        }
-        i += 1;
-    }
-    true
-}
-
-// An ASCII digit.
-fn label_character(c: u8) -> bool
-    ensures { λ r. ⌜ r ≡ labelCharacter c ⌝ }
-{
-    if c < 48 {
-        return false;
-    }
-    c <= 57
-}
-
-fn label_characters(s: &[u8]) -> bool
-    ensures { λ r. ⌜ r ≡ labelCharacters (now (s .entry)) ⌝ }
-{
-    let mut i = 0;
-    while i < s.len() {
-        if !label_character(s[i]) {
-            return false;
-        }
-        i += 1;
-    }
-    true
-}
-
-// A label is eight characters.
-pub fn is_label(s: &[u8]) -> bool
-    ensures { λ r. ⌜ r ≡ isLabel (now (s .entry)) ⌝ }
-{
-    if s.len() != 8 {
-        return false;
-    }
-    label_characters(s)
-}
-
-// No bit of the payload is set from the count-th on.
-fn unused_zero(payload: &[u8], count: usize) -> bool
-    requires { ⌜ length (now payload) ≤ 492 ⌝ }
-    ensures { λ r. ⌜ r ≡ allZero (drop count (bits (now (payload .entry)))) ⌝ }
-{
-    let end = 8 * payload.len();
-    let mut at = count;
-    while at < end {
-        if bits::bit_at(payload, at) {
-            return false;
-        }
-        at += 1;
-    }
-    true
-}
-
 // Edition, k, L, n, label, payload count and the unused bits are right.
 fn fields_right(block: &[u8]) -> bool
     requires { ⌜ length (now block) ≡ 512 ⌝ }
@@ -180,14 +105,14 @@ fn fields_right(block: &[u8]) -> bool
     if !sizes::planes_in(sums::wide(block[3])) {
         return false;
     }
-    if !is_label(&block[4..12]) {
+    if !fields::is_label(&block[4..12]) {
         return false;
     }
-    let count = pair_at(block, 14);
+    let count = fields::pair_at(block, 14);
     if count > PAYLOAD_BITS {
         return false;
     }
-    unused_zero(&block[PAYLOAD..CHECKS], count)
+    fields::unused_zero(&block[PAYLOAD..CHECKS], count)
 }
 
 // A and B are right.
@@ -196,10 +121,10 @@ fn checks_right(block: &[u8]) -> bool
     ensures { λ r. ⌜ r ≡ checksRight (now (block .entry)) ⌝ }
 {
     let body = &block[0..CHECKS];
-    if pair_at(block, CHECKS) != sums::check_a(body) as usize {
+    if fields::pair_at(block, CHECKS) != sums::check_a(body) as usize {
         return false;
     }
-    pair_at(block, CHECKS + 2) == sums::check_b(body) as usize
+    fields::pair_at(block, CHECKS + 2) == sums::check_b(body) as usize
 }
 
 // The single-block check: 0, or 6, 8 or 9.

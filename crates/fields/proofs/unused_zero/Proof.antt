@@ -6,10 +6,10 @@ use native.Mathlib.Omega.{arith}
 use lib.ListN.{length, drop}
 use Rattle.paper.specs.Bits.{bits, allZero}
 use Rattle.bits.proofs.OneBit.{bits-length}
-use Rattle.block.proofs.Bytewise.{unused-more, unused-set, unused-end}
+use Rattle.fields.proofs.Bytewise.{unused-more, unused-set, unused-end}
 use borrow.Author.Needs.{needs}
-use Rattle.block.proofs.unused_zero.Statement.{statement}
-use Rattle.block.proofs.unused_zero.Tie as tie
+use Rattle.fields.proofs.unused_zero.Statement.{statement}
+use Rattle.fields.proofs.unused_zero.Tie as tie
 
 abbrev Inv-loop : tie.InvT-loop
 Inv-loop payload count end at₀ at = (end ≡ 8 * length payload) × (allZero (drop count (bits payload)) ≡ allZero (drop at (bits payload)))

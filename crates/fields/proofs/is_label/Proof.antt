@@ -2,8 +2,8 @@
 use borrow.Author.Tests.{eq-eqb, ne-eqb}
 use Rattle.paper.specs.Block.{isLabel}
 use borrow.Author.Needs.{needs}
-use Rattle.block.proofs.is_label.Statement.{statement}
-use Rattle.block.proofs.is_label.Tie as tie
+use Rattle.fields.proofs.is_label.Statement.{statement}
+use Rattle.fields.proofs.is_label.Tie as tie
 
 returns : tie.Need-returns
 unfolding isLabel

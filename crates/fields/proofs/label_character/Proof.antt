@@ -2,8 +2,8 @@
 use native.Mathlib.Omega.{arith}
 use borrow.Author.Tests.{lt-leb, le-leb}
 use Rattle.paper.specs.Block.{labelCharacter}
-use Rattle.block.proofs.label_character.Statement.{statement}
-use Rattle.block.proofs.label_character.Tie as tie
+use Rattle.fields.proofs.label_character.Statement.{statement}
+use Rattle.fields.proofs.label_character.Tie as tie
 
 returns : tie.Need-returns
 unfolding labelCharacter

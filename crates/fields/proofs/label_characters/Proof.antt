@@ -5,10 +5,10 @@ use native.Mathlib.Omega.{arith}
 use borrow.Author.Tests.{not-true, not-false}
 use lib.ListN.{length, drop}
 use Rattle.paper.specs.Block.{labelCharacters}
-use Rattle.block.proofs.Bytewise.{characters-more, characters-end}
+use Rattle.fields.proofs.Bytewise.{characters-more, characters-end}
 use borrow.Author.Needs.{needs}
-use Rattle.block.proofs.label_characters.Statement.{statement}
-use Rattle.block.proofs.label_characters.Tie as tie
+use Rattle.fields.proofs.label_characters.Statement.{statement}
+use Rattle.fields.proofs.label_characters.Tie as tie
 
 abbrev Inv-loop : tie.InvT-loop
 Inv-loop s i₀ i = (i ≤ length s) × (labelCharacters s ≡ labelCharacters (drop i s))

@@ -5,10 +5,10 @@ use native.Mathlib.Omega.{arith}
 use lib.ListN.{length, drop}
 use borrow.Author.Tests.{eq-eqb, ne-eqb}
 use Rattle.paper.specs.Block.{sameBytes}
-use Rattle.block.proofs.Bytewise.{same-more, same-end, same-lengths}
+use Rattle.fields.proofs.Bytewise.{same-more, same-end, same-lengths}
 use borrow.Author.Needs.{needs}
-use Rattle.block.proofs.same_bytes.Statement.{statement}
-use Rattle.block.proofs.same_bytes.Tie as tie
+use Rattle.fields.proofs.same_bytes.Statement.{statement}
+use Rattle.fields.proofs.same_bytes.Tie as tie
 
 abbrev Inv-loop : tie.InvT-loop
 Inv-loop a b i₀ i = (i ≤ length a) × (length a ≡ length b) × (sameBytes a b ≡ sameBytes (drop i a) (drop i b))
