@@ -1,4 +1,5 @@
-use Rattle.writer.proofs.Blocks.{none-written, one-more}
+use Rattle.writer.proofs.Blocks.{one-written}
+use Rattle.records.specs.Parts.{none-joined}
 use Rattle.paper.specs.Record.{blockOf}
 use Rattle.paper.specs.Bits.{bits}
 use Rattle.paper.specs.Lists.{joined}
@@ -21,7 +22,7 @@ abbrev μ-loop : tie.MeasureT-loop
 loop-holds : tie.Need-loop-holds Inv-loop μ-loop
 loop-holds c =
     let args = c .before .before .before .args in
-    (omega arith, refl, none-written (args .k) (args .levels) (args .n) (args .label .now) (args .bytes .now) (args .b) (args .room .now))
+    (omega arith, refl, none-joined 512 (blockOf (args .k) (args .levels) (args .n) (args .label .now) (take (args .b) (bits (args .bytes .now)))) (args .room .now))
 
 mul-start : tie.Need-mul-start Inv-loop μ-loop
 mul-start c = search needs
@@ -57,7 +58,7 @@ loop-again c =
     let put = c .before .before .put-block in (
       omega arith,
       same-len-mid (512 * at .i) (512 * at .i + 512 - 512 * at .i) (at .room) (put .last .0) (put .kept .0) ∙ at .inv .1,
-      one-more (args .k) (args .levels) (args .n) (args .label .now) (args .bytes .now) (args .b) (at .i) (S .pre .1 .0) (put .last .0) (at .room) (args .room .now) (at .inv .2) (put .ensures),
+      one-written (args .k) (args .levels) (args .n) (args .label .now) (args .bytes .now) (args .b) (at .i) (S .pre .1 .0) (put .last .0) (at .room) (args .room .now) (at .inv .2) (put .ensures),
     )
 
 same-length : tie.Need-same-length Inv-loop μ-loop
