@@ -1,10 +1,11 @@
 // What a reader keeps of lent blocks: a pass that only looks, and a pass that copies the kept payload.
 ghost use mathlib.Core.Path.{_≡_};
+ghost use mathlib.Core.List.{_++_};
 ghost use mathlib.Core.Bool.{_&&_};
 ghost use Prim.Native.Nat.{_+_, _*_, _<_, _≤_};
 ghost use lib.Dec.{eqb};
-ghost use lib.ListN.{length, take};
-ghost use Rattle.paper.specs.Lists.{over, parts};
+ghost use lib.ListN.{length, take, drop};
+ghost use Rattle.paper.specs.Lists.{joined, over};
 ghost use Rattle.paper.specs.Block.{sameBytes, labelOf, numberOf, countOf, payloadOf, payloadStart};
 ghost use Rattle.paper.specs.Record.{blockAt, wholeBlocks, turnRefusal, runOf, bitsKept, payloadKept};
 
@@ -35,7 +36,11 @@ pub fn turn_refusal(blocks: &[u8], label: &[u8], i: usize) -> u32
     if refusal > 0 {
         return refusal;
     }
-    if in_turn(block, &blocks[0..512], label, i) { 0 } else { 10 }
+    if in_turn(block, &blocks[0..512], label, i) {
+        0
+    } else {
+        10
+    }
 }
 
 // The payload bits in block i.
@@ -75,10 +80,7 @@ pub fn longest_run(blocks: &[u8], label: &[u8]) -> Run
         }
         i += 1;
     }
-    Run {
-        kept: i,
-        ended: 0,
-    }
+    Run { kept: i, ended: 0 }
 }
 
 // The bits that kept blocks hold.
@@ -90,4 +92,49 @@ pub fn bits_kept(blocks: &[u8], kept: usize) -> usize
 {
     let last = kept - 1;
     3936 * last + count_at(blocks, last)
+}
+
+// The first n payload bytes of block i, in their place; what lies before and behind is untouched.
+fn put_payload(room: &mut [u8], blocks: &[u8], i: usize, n: usize)
+    requires { ⌜ 512 * i + 512 ≤ length (now blocks) ⌝ }
+    requires { ⌜ 492 * i + n ≤ length (now room) ⌝ }
+    requires { ⌜ n ≤ 492 ⌝ }
+    ensures { λ _. ⌜ now (room .exit) ≡ take (492 * i) (now (room .entry)) ++ (take n (payloadOf payloadStart (blockAt (now (blocks .entry)) i)) ++ drop (492 * i + n) (now (room .entry))) ⌝ }
+{
+    let from = 512 * i;
+    let to = from + 512;
+    let block = &blocks[from..to];
+    let payload = &block[16..508];
+    let start = 492 * i;
+    let end = start + n;
+    block::copy_in(&mut room[start..end], &payload[0..n]);
+}
+
+// The payload of full blocks, one behind the other.
+fn copy_full(room: &mut [u8], blocks: &[u8], full: usize)
+    requires { ⌜ full ≤ wholeBlocks (now blocks) ⌝ }
+    requires { ⌜ 492 * full ≤ length (now room) ⌝ }
+    ensures { λ _. ⌜ now (room .exit) ≡ joined full (λ i. payloadOf payloadStart (blockAt (now (blocks .entry)) i)) ++ drop (492 * full) (now (room .entry)) ⌝ }
+{
+    let mut i = 0;
+    while i < full {
+        put_payload(room, blocks, i, 492);
+        i += 1;
+    }
+}
+
+// The kept payload, in its used bytes, at the front of the room.
+pub fn copy_kept(room: &mut [u8], blocks: &[u8], kept: usize, bits: usize)
+    requires { ⌜ 0 < kept ⌝ }
+    requires { ⌜ kept ≤ wholeBlocks (now blocks) ⌝ }
+    requires { ⌜ 492 * wholeBlocks (now blocks) ≤ length (now room) ⌝ }
+    requires { ⌜ bits ≡ bitsKept (now blocks) kept ⌝ }
+    requires { ⌜ bits ≤ 3936 * kept ⌝ }
+    requires { ⌜ kept ≤ 65536 ⌝ }
+    ensures { λ _. ⌜ now (room .exit) ≡ over (payloadKept (now (blocks .entry)) kept) (now (room .entry)) ⌝ }
+{
+    let last = kept - 1;
+    let used = (bits - 3936 * last + 7) / 8;
+    copy_full(room, blocks, last);
+    put_payload(room, blocks, last, used);
 }

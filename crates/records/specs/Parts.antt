@@ -10,6 +10,14 @@ use lib.ListN.{length, take, drop, length-append}
 use lib.Seq.{take-at, drop-at, drop-drop}
 use Rattle.paper.specs.Lists.{joined}
 
+-- a list stands at the front, and a part is laid behind it
+pub laid-behind : {A : Type 0} (front part out old : List A) (a u : ℕ) → length front ≡ a → out ≡ front ++ drop a old
+    → take a out ++ (part ++ drop (a + u) out) ≡ (front ++ part) ++ drop (a + u) old
+laid-behind front part out old a u h e =
+    let before : take a out ≡ front = ap (take a) e ∙ take-at front (drop a old) a h in
+    let behind : drop (a + u) out ≡ drop (a + u) old = sym (drop-drop u a out) ∙ ap (λ o. drop u (drop a o)) e ∙ ap (drop u) (drop-at front (drop a old) a h) ∙ drop-drop u a old in
+    (λ t. before t ++ (part ++ behind t)) ∙ sym (append-assoc front part (drop (a + u) old))
+
 -- the first n parts are m long
 abbrev pub Even : {A : Type 0} → ℕ → (ℕ → List A) → ℕ → Type 0
 Even m f n = (i : ℕ) → i < n → length (f i) ≡ m
@@ -27,9 +35,9 @@ module _ {A : Type 0} (m : ℕ) (f : ℕ → List A) where
   part-joined (suc n) each tail i h = elim (decLt i n) [
     | yes k ↦ rw append-assoc (part-joined n (λ i h. each i (omega arith)) (f n ++ tail) i k)
     | no k ↦
-      let e : i ≡ n = omega arith in
-      let all = length-joined n (λ i h. each i (omega arith)) in
-      rw (append-assoc, e, drop-at (joined n f) (f n ++ tail) (m * n) all) (take-at (f n) tail m (each n (omega arith)))
+        let e : i ≡ n = omega arith in
+        let all = length-joined n (λ i h. each i (omega arith)) in
+        rw (append-assoc, e, drop-at (joined n f) (f n ++ tail) (m * n) all) (take-at (f n) tail m (each n (omega arith)))
   ]
 
   -- no part yet, and then one more laid behind those that are there
@@ -41,12 +49,9 @@ module _ {A : Type 0} (m : ℕ) (f : ℕ → List A) where
       → take (m * i) out ++ (part ++ drop (m * i + m) out) ≡ joined (i + 1) f ++ drop (m * (i + 1)) old
   unfolding joined
   one-joined i each part out old e p =
-      let all = length-joined i each in
-      let front : take (m * i) out ≡ joined i f = ap (take (m * i)) e ∙ take-at (joined i f) (drop (m * i) old) (m * i) all in
-      let back : drop (m * i + m) out ≡ drop (m * suc i) old =
-          sym (drop-drop m (m * i) out) ∙ ap (λ o. drop m (drop (m * i) o)) e ∙ ap (drop m) (drop-at (joined i f) (drop (m * i) old) (m * i) all)
-          ∙ drop-drop m (m * i) old ∙ ap (λ a. drop a old) (sym (mul-suc m i)) in
-      (λ t. front t ++ (p t ++ back t)) ∙ sym (append-assoc (joined i f) (f i) (drop (m * suc i) old)) ∙ ap (λ j. joined j f ++ drop (m * j) old) (sym (add-one i))
+      laid-behind (joined i f) part out old (m * i) m (length-joined i each) e
+      ∙ (λ t. (joined i f ++ p t) ++ drop (sym (mul-suc m i) t) old)
+      ∙ ap (λ j. joined j f ++ drop (m * j) old) (sym (add-one i))
 
 -- what lies behind a part that was lent, from a to e
 pub behind-part : {A : Type 0} (a e : ℕ) (s : List A) → a ≤ e → drop (e - a) (drop a s) ≡ drop e s

@@ -29,6 +29,13 @@ own-row : (r later : ℕ) → unless r (eqb r 0) later ≡ 0 → (r ≡ 0) × (l
 own-row zero later h = (refl, h)
 own-row (suc r) later h = let z : suc r ≡ 0 = rw eqb·suc-zero at h in absurd (omega arith)
 
+-- two bytes of a block hold less than 65,536, so no more blocks are numbered in their turn
+pub pair-small : (s : List ℕ) → Bytes s → (i j : ℕ) → j + 1 < 512 → pairAt (blockAt s i) j < 65536
+pair-small s w i j h = omega (arith, small j (omega arith), small (j + 1) h)
+  where
+    small : (j : ℕ) → j < 512 → getD (blockAt s i) j 0 < 256
+    small j h = rw (getD-take 512 (drop (512 * i) s) j 0 h, getD-drop (512 * i) s j 0) (w (512 * i + j))
+
 module _ (s label : List ℕ) where
   pub turn : (i : ℕ) → turnRefusal s label i ≡ 0 → Turn s label i
   unfolding turnRefusal inTurn
@@ -46,19 +53,12 @@ module _ (s label : List ℕ) where
         labelled = same-bytes-equal _ _ (both-second (numbered && like) expected all);
       }
 
-  -- two bytes of a block hold less than 65,536, so no more blocks are numbered in their turn
-  pub pair-small : Bytes s → (i j : ℕ) → j + 1 < 512 → pairAt (blockAt s i) j < 65536
-  pair-small w i j h = omega (arith, small j (omega arith), small (j + 1) h)
-    where
-      small : (j : ℕ) → j < 512 → getD (blockAt s i) j 0 < 256
-      small j h = rw (getD-take 512 (drop (512 * i) s) j 0 h, getD-drop (512 * i) s j 0) (w (512 * i + j))
-
   pub few-kept : Bytes s → (runOf s label) .kept ≤ 65536
   few-kept w = go ((runOf s label) .kept) (longest s label (wholeBlocks s) 0 .passes)
     where
       go : (kept : ℕ) → ((j : ℕ) → 0 ≤ j → j < kept → turnRefusal s label j ≡ 0) → kept ≤ 65536
       go zero passes = omega arith
-      go (suc j) passes = omega (arith, turn j (passes j (omega arith) (omega arith)) .number, pair-small w j 12 (omega arith))
+      go (suc j) passes = omega (arith, turn j (passes j (omega arith) (omega arith)) .number, pair-small s w j 12 (omega arith))
 
   pub whole-kept : (runOf s label) .kept ≤ wholeBlocks s
   whole-kept = omega (arith, longest s label (wholeBlocks s) 0 .to)

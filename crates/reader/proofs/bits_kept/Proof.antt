@@ -1,29 +1,27 @@
+use Prim.Native.Nat.{_-_}
+use Rattle.reader.proofs.Turn.{bits-last}
+use Rattle.records.specs.Turn.{pair-small}
+use native.Mathlib.Omega.{arith}
 use borrow.Author.Needs.{needs}
 use Rattle.reader.proofs.bits_kept.Statement.{statement}
 use Rattle.reader.proofs.bits_kept.Tie as tie
-use Rattle.reader.proofs.bits_kept.Reads as reads
-use Rattle.reader.proofs.bits_kept.Lts as lts
-use Rattle.reader.proofs.count_at.Reads as count-at-reads
 
--- src/lib.rt:91:16
 sub-last : tie.Need-sub-last
 sub-last c = search needs
 
--- src/lib.rt:92:5
 mul-result : tie.Need-mul-result
 mul-result c = search needs
 
--- src/lib.rt:92:19
 count-at-requires : tie.Need-count-at-requires
 count-at-requires c κs = search needs
 
--- src/lib.rt:92:5
 add-result : tie.Need-add-result
-add-result c = search needs
+add-result c =
+    record { fits = omega (arith, c .before .before .pre .1 .0, c .count-at .ensures, pair-small (c .before .before .args .blocks .now) (λ i. c .before .shared-slice-known .given i .fits) (c .before .before .args .kept - 1) 14 (omega arith)) }
 
--- src/lib.rt:85:1
 returns : tie.Need-returns
-returns c = search needs
+returns c =
+    bits-last (c .before .before .args .blocks .now) (c .before .before .args .kept) (c .count-at .result) (c .before .before .pre .0) (c .count-at .ensures)
 
 pub bits-kept-spec : {M : Type 1} → statement M
 bits-kept-spec = tie.close (tie.spec sub-last mul-result count-at-requires add-result returns)
