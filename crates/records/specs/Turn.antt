@@ -10,7 +10,7 @@ use lib.Seq.{getD-take, getD-drop}
 use borrow.Author.Tests.{eqb-true}
 use Rattle.paper.specs.Sizes.{unless}
 use Rattle.paper.specs.Block.{sameBytes, labelOf, numberOf, countOf, pairAt, blockRefusal}
-use Rattle.paper.specs.Record.{wholeBlocks, blockAt, inTurn, turnRefusal, runOf}
+use Rattle.paper.specs.Record.{wholeBlocks, blockAt, inTurn, turnRefusal, runOf, bitsKept}
 use Rattle.sizes.proofs.Ranges.{both-first, both-second}
 use Rattle.sizes.proofs.Refusals.{row-passed}
 use Rattle.bits.proofs.Packing.{Bytes}
@@ -66,6 +66,14 @@ module _ (s label : List ℕ) where
   -- a block that can be kept holds no more bits than its payload
   pub count-kept : (i : ℕ) → turnRefusal s label i ≡ 0 → countOf (blockAt s i) ≤ 3936
   count-kept i h = fields-of-passed (blockAt s i) (turn i h .passes) .its-count
+
+  pub most-kept : bitsKept s ((runOf s label) .kept) ≤ 3936 * (runOf s label) .kept
+  unfolding bitsKept
+  most-kept = go ((runOf s label) .kept) (longest s label (wholeBlocks s) 0 .passes)
+    where
+      go : (kept : ℕ) → ((j : ℕ) → 0 ≤ j → j < kept → turnRefusal s label j ≡ 0) → bitsKept s kept ≤ 3936 * kept
+      go zero passes = omega arith
+      go (suc j) passes = omega (arith, count-kept j (passes j (omega arith) (omega arith)))
 
   -- where nothing is kept, the run ends with the number of block 0; where something is, block 0 is
   pub first-kept : 0 < (runOf s label) .kept → turnRefusal s label 0 ≡ 0
