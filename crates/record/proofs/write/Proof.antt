@@ -1,3 +1,4 @@
+-- `write` is the writing job: refused by its rows, or done by the blocks at the front of the room.
 use Rattle.record.proofs.Writing.{write-rows, write-refused, write-done, few-blocks}
 use Rattle.records.specs.BothJobs.{accepted}
 use Rattle.block.proofs.Blocks.{label-length}
