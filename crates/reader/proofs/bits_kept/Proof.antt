@@ -3,18 +3,17 @@ use Prim.Native.Nat.{_-_}
 use Rattle.reader.proofs.Turn.{bits-last}
 use Rattle.records.specs.Turn.{pair-small}
 use native.Mathlib.Omega.{arith}
-use borrow.Author.Needs.{needs}
 use Rattle.reader.proofs.bits_kept.Statement.{statement}
 use Rattle.reader.proofs.bits_kept.Tie as tie
 
 sub-last : tie.Need-sub-last
-sub-last c = search needs
+sub-last c = omega arith
 
 mul-result : tie.Need-mul-result
-mul-result c = search needs
+mul-result c = omega arith
 
 count-at-requires : tie.Need-count-at-requires
-count-at-requires c κs = search needs
+count-at-requires c κs = omega arith
 
 add-result : tie.Need-add-result
 add-result c =

@@ -9,7 +9,6 @@ use native.Mathlib.Omega.{arith}
 use mathlib.Core.List.{_++_}
 use mathlib.Core.Path.{_≡_, refl, ap, _∙_}
 use Prim.Native.Nat.{ℕ, _≤_, _-_, _*_}
-use borrow.Author.Needs.{needs}
 use Rattle.reader.proofs.copy_full.Statement.{statement}
 use Rattle.reader.proofs.copy_full.Tie as tie
 
@@ -29,7 +28,7 @@ put-payload-requires c κs =
     omega arith
 
 add-i : tie.Need-add-i Inv-loop μ-loop
-add-i c = search needs
+add-i c = omega arith
 
 loop-less : tie.Need-loop-less Inv-loop μ-loop
 loop-less c =

@@ -6,31 +6,30 @@ use Rattle.paper.specs.Lists.{over}
 use native.Mathlib.Omega.{arith}
 use mathlib.Core.Path.{_≡_, sym, ap, _∙_}
 use Prim.Native.Nat.{ℕ, suc, _-_}
-use borrow.Author.Needs.{needs}
 use Rattle.reader.proofs.copy_kept.Statement.{statement}
 use Rattle.reader.proofs.copy_kept.Tie as tie
 
 sub-last : tie.Need-sub-last
-sub-last c = search needs
+sub-last c = omega arith
 
 mul-used : tie.Need-mul-used
-mul-used c = search needs
+mul-used c = omega arith
 
 sub-used : tie.Need-sub-used
 sub-used c =
     omega (arith, bits-low (c .before .before .args .blocks .now) (c .before .before .args .kept))
 
 add-used : tie.Need-add-used
-add-used c = search needs
+add-used c = omega arith
 
 copy-full-requires : tie.Need-copy-full-requires
-copy-full-requires c κs = search needs
+copy-full-requires c κs = omega arith
 
 put-payload-requires : tie.Need-put-payload-requires
-put-payload-requires c κs = search needs
+put-payload-requires c κs = omega arith
 
 same-length : tie.Need-same-length
-same-length c = search needs
+same-length c = omega arith
 
 returns : tie.Need-returns
 returns c =

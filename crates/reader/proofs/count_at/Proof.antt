@@ -1,28 +1,28 @@
 -- `count_at` reads bytes 14 and 15 of the part that is block i.
+use native.Mathlib.Omega.{arith}
 use Rattle.reader.proofs.Turn.{part-is}
 use Rattle.paper.specs.Block.{countOf}
 use mathlib.Core.Path.{ap, _∙_}
-use borrow.Author.Needs.{needs}
 use Rattle.reader.proofs.count_at.Statement.{statement}
 use Rattle.reader.proofs.count_at.Tie as tie
 
 mul-start : tie.Need-mul-start
-mul-start c = search needs
+mul-start c = omega arith
 
 add-end : tie.Need-add-end
-add-end c = search needs
+add-end c = omega arith
 
 sub-pair-at : tie.Need-sub-pair-at
-sub-pair-at c = search needs
+sub-pair-at c = omega arith
 
 part-pair-at-start : tie.Need-part-pair-at-start
-part-pair-at-start c = search needs
+part-pair-at-start c = omega arith
 
 part-pair-at-end : tie.Need-part-pair-at-end
-part-pair-at-end c = search needs
+part-pair-at-end c = omega arith
 
 pair-at-requires : tie.Need-pair-at-requires
-pair-at-requires c κs = search needs
+pair-at-requires c κs = omega arith
 
 returns : tie.Need-returns
 returns c =

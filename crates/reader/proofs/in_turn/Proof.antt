@@ -1,54 +1,54 @@
 -- `in_turn`: three tests, each by what its callee ensures.
+use native.Mathlib.Omega.{arith}
 use Rattle.reader.proofs.Turn.{first-fails, second-fails, third-decides}
 use borrow.Author.Tests.{eq-eqb, ne-eqb, not-true, not-false}
 use mathlib.Core.Path.{sym, _∙_}
-use borrow.Author.Needs.{needs}
 use Rattle.reader.proofs.in_turn.Statement.{statement}
 use Rattle.reader.proofs.in_turn.Tie as tie
 
 pair-at-requires : tie.Need-pair-at-requires
-pair-at-requires c κs = search needs
+pair-at-requires c κs = omega arith
 
 returns : tie.Need-returns
 returns c =
     first-fails _ _ (ne-eqb _ _ (λ e. c .if1 .taken (c .before .pair-at .ensures ∙ e)))
 
 sub-same-bytes : tie.Need-sub-same-bytes
-sub-same-bytes c = search needs
+sub-same-bytes c = omega arith
 
 part-same-bytes-start : tie.Need-part-same-bytes-start
-part-same-bytes-start c = search needs
+part-same-bytes-start c = omega arith
 
 part-same-bytes-end : tie.Need-part-same-bytes-end
-part-same-bytes-end c = search needs
+part-same-bytes-end c = omega arith
 
 sub-same-bytes-2 : tie.Need-sub-same-bytes-2
-sub-same-bytes-2 c = search needs
+sub-same-bytes-2 c = omega arith
 
 part-same-bytes-start-2 : tie.Need-part-same-bytes-start-2
-part-same-bytes-start-2 c = search needs
+part-same-bytes-start-2 c = omega arith
 
 part-same-bytes-end-2 : tie.Need-part-same-bytes-end-2
-part-same-bytes-end-2 c = search needs
+part-same-bytes-end-2 c = omega arith
 
 same-bytes-requires : tie.Need-same-bytes-requires
-same-bytes-requires c κs = search needs
+same-bytes-requires c κs = omega arith
 
 returns-2 : tie.Need-returns-2
 returns-2 c =
     second-fails _ (eq-eqb _ _ (sym (c .before .before .before .before .before .pair-at .ensures) ∙ c .before .before .before .before .if1 .left)) (sym (c .before .same-bytes .ensures) ∙ not-true _ (c .if2 .taken))
 
 sub-name : tie.Need-sub-name
-sub-name c = search needs
+sub-name c = omega arith
 
 part-name-start : tie.Need-part-name-start
-part-name-start c = search needs
+part-name-start c = omega arith
 
 part-name-end : tie.Need-part-name-end
-part-name-end c = search needs
+part-name-end c = omega arith
 
 same-bytes-requires-2 : tie.Need-same-bytes-requires-2
-same-bytes-requires-2 c κs = search needs
+same-bytes-requires-2 c κs = omega arith
 
 returns-3 : tie.Need-returns-3
 returns-3 c =

@@ -5,7 +5,6 @@ use lib.ListN.{length}
 use native.Mathlib.Omega.{arith}
 use mathlib.Core.Path.{_≡_, _∙_}
 use Prim.Native.Nat.{_≤_, _-_, _/_}
-use borrow.Author.Needs.{needs}
 use Rattle.reader.proofs.longest_run.Statement.{statement}
 use Rattle.reader.proofs.longest_run.Tie as tie
 
@@ -21,7 +20,7 @@ loop-holds c =
     (omega arith, run-start (args .blocks .now) (args .label .now))
 
 turn-refusal-requires : tie.Need-turn-refusal-requires Inv-loop μ-loop
-turn-refusal-requires c κs = search needs
+turn-refusal-requires c κs = omega arith
 
 returns : tie.Need-returns Inv-loop μ-loop
 returns c =
@@ -30,10 +29,10 @@ returns c =
     at .inv .1 ∙ run-fails (args .blocks .now) (args .label .now) (length (args .blocks .now) / 512) (at .i) (omega arith) (c .before .turn-refusal .result) (c .before .turn-refusal .ensures) (omega arith)
 
 count-at-requires : tie.Need-count-at-requires Inv-loop μ-loop
-count-at-requires c κs = search needs
+count-at-requires c κs = omega arith
 
 add-t9 : tie.Need-add-t9 Inv-loop μ-loop
-add-t9 c = search needs
+add-t9 c = omega arith
 
 returns-2 : tie.Need-returns-2 Inv-loop μ-loop
 returns-2 c =
@@ -42,7 +41,7 @@ returns-2 c =
     at .inv .1 ∙ run-short (args .blocks .now) (args .label .now) (length (args .blocks .now) / 512) (at .i) (omega arith) (c .before .before .before .turn-refusal .result) (c .before .count-at .result) (c .before .before .before .turn-refusal .ensures) (omega arith) (c .before .count-at .ensures) (c .if2 .taken)
 
 add-i : tie.Need-add-i Inv-loop μ-loop
-add-i c = search needs
+add-i c = omega arith
 
 loop-less : tie.Need-loop-less Inv-loop μ-loop
 loop-less c =

@@ -1,62 +1,62 @@
 -- `put_payload` covers its place with the first n payload bytes.
+use native.Mathlib.Omega.{arith}
 use Rattle.reader.proofs.Payload.{payload-put}
-use borrow.Author.Needs.{needs}
 use Rattle.reader.proofs.put_payload.Statement.{statement}
 use Rattle.reader.proofs.put_payload.Tie as tie
 
 mul-from : tie.Need-mul-from
-mul-from c = search needs
+mul-from c = omega arith
 
 add-to : tie.Need-add-to
-add-to c = search needs
+add-to c = omega arith
 
 sub-block : tie.Need-sub-block
-sub-block c = search needs
+sub-block c = omega arith
 
 part-block-start : tie.Need-part-block-start
-part-block-start c = search needs
+part-block-start c = omega arith
 
 part-block-end : tie.Need-part-block-end
-part-block-end c = search needs
+part-block-end c = omega arith
 
 sub-payload : tie.Need-sub-payload
-sub-payload c = search needs
+sub-payload c = omega arith
 
 part-payload-start : tie.Need-part-payload-start
-part-payload-start c = search needs
+part-payload-start c = omega arith
 
 part-payload-end : tie.Need-part-payload-end
-part-payload-end c = search needs
+part-payload-end c = omega arith
 
 mul-start : tie.Need-mul-start
-mul-start c = search needs
+mul-start c = omega arith
 
 add-end : tie.Need-add-end
-add-end c = search needs
+add-end c = omega arith
 
 sub-copy-in : tie.Need-sub-copy-in
-sub-copy-in c = search needs
+sub-copy-in c = omega arith
 
 part-copy-in-start : tie.Need-part-copy-in-start
-part-copy-in-start c = search needs
+part-copy-in-start c = omega arith
 
 part-copy-in-end : tie.Need-part-copy-in-end
-part-copy-in-end c = search needs
+part-copy-in-end c = omega arith
 
 sub-copy-in-2 : tie.Need-sub-copy-in-2
-sub-copy-in-2 c = search needs
+sub-copy-in-2 c = omega arith
 
 part-copy-in-start-2 : tie.Need-part-copy-in-start-2
-part-copy-in-start-2 c = search needs
+part-copy-in-start-2 c = omega arith
 
 part-copy-in-end-2 : tie.Need-part-copy-in-end-2
-part-copy-in-end-2 c = search needs
+part-copy-in-end-2 c = omega arith
 
 copy-in-requires : tie.Need-copy-in-requires
-copy-in-requires c κs = search needs
+copy-in-requires c κs = omega arith
 
 same-length : tie.Need-same-length
-same-length c = search needs
+same-length c = omega arith
 
 returns : tie.Need-returns
 returns c =

@@ -10,36 +10,35 @@ use Rattle.paper.specs.Record.{blockAt}
 use Rattle.paper.specs.Block.{sameBytes, labelOf, numberOf, blockRefusal}
 use native.Mathlib.Omega.{arith}
 use mathlib.Core.Path.{sym, ap, _∙_}
-use borrow.Author.Needs.{needs}
 use Rattle.reader.proofs.turn_refusal.Statement.{statement}
 use Rattle.reader.proofs.turn_refusal.Tie as tie
 
 mul-start : tie.Need-mul-start
-mul-start c = search needs
+mul-start c = omega arith
 
 add-end : tie.Need-add-end
-add-end c = search needs
+add-end c = omega arith
 
 sub-first : tie.Need-sub-first
-sub-first c = search needs
+sub-first c = omega arith
 
 part-first-start : tie.Need-part-first-start
-part-first-start c = search needs
+part-first-start c = omega arith
 
 part-first-end : tie.Need-part-first-end
-part-first-end c = search needs
+part-first-end c = omega arith
 
 sub-block : tie.Need-sub-block
-sub-block c = search needs
+sub-block c = omega arith
 
 part-block-start : tie.Need-part-block-start
-part-block-start c = search needs
+part-block-start c = omega arith
 
 part-block-end : tie.Need-part-block-end
-part-block-end c = search needs
+part-block-end c = omega arith
 
 check-requires : tie.Need-check-requires
-check-requires c κs = search needs
+check-requires c κs = omega arith
 
 returns : tie.Need-returns
 returns c =
@@ -48,7 +47,7 @@ returns c =
     turn-fails (args .blocks .now) (args .label .now) (args .i) (c .before .check .result) (c .before .check .ensures ∙ ap blockRefusal e) (omega arith)
 
 in-turn-requires : tie.Need-in-turn-requires
-in-turn-requires c κs = search needs
+in-turn-requires c κs = omega arith
 
 returns-2 : tie.Need-returns-2
 returns-2 c =

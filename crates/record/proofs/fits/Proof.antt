@@ -7,19 +7,18 @@ use lib.Dec.{leb}
 use native.Mathlib.Omega.{arith}
 use mathlib.Core.Path.{sym, ap, _∙_}
 use Prim.Native.Nat.{ℕ, _*_}
-use borrow.Author.Needs.{needs}
 use Rattle.record.proofs.fits.Statement.{statement}
 use Rattle.record.proofs.fits.Tie as tie
 
 lends-requires : tie.Need-lends-requires
-lends-requires c κs = search needs
+lends-requires c κs = omega arith
 
 returns : tie.Need-returns
 returns c =
     first-fails _ _ (sym (c .before .lends .ensures) ∙ not-true _ (c .if1 .taken))
 
 most-bits-requires : tie.Need-most-bits-requires
-most-bits-requires c κs = search needs
+most-bits-requires c κs = c .before .before .pre
 
 returns-2 : tie.Need-returns-2
 returns-2 c =
@@ -30,7 +29,7 @@ blocks-for-requires c κs =
     omega (arith, most-bits (c .before .before .before .before .args .k) (c .before .before .before .before .args .n) (c .before .before .before .before .pre .0) (c .before .before .before .before .pre .1))
 
 mul-result : tie.Need-mul-result
-mul-result c = search needs
+mul-result c = omega arith
 
 returns-3 : tie.Need-returns-3
 returns-3 c =

@@ -2,7 +2,6 @@
 use Rattle.record.proofs.Table.{first-and, second-and}
 use borrow.Author.Tests.{le-leb, lt-leb}
 use native.Mathlib.Omega.{arith}
-use borrow.Author.Needs.{needs}
 use Rattle.record.proofs.holds.Statement.{statement}
 use Rattle.record.proofs.holds.Tie as tie
 
@@ -11,7 +10,7 @@ returns c =
     first-and _ (lt-leb 512 (c .before .args .blocks) (omega arith))
 
 mul-result : tie.Need-mul-result
-mul-result c = search needs
+mul-result c = omega arith
 
 returns-2 : tie.Need-returns-2
 returns-2 c =

@@ -5,21 +5,20 @@ use lib.ListN.{length}
 use native.Mathlib.Omega.{arith}
 use mathlib.Core.Path.{_≡_, sym, _∙_}
 use Rattle.record.proofs.Table.{rows-are}
-use borrow.Author.Needs.{needs}
 use Rattle.record.proofs.read.Statement.{statement}
 use Rattle.record.proofs.read.Tie as tie
 
 holds-requires : tie.Need-holds-requires
-holds-requires c κs = search needs
+holds-requires c κs = omega arith
 
 is-label-requires : tie.Need-is-label-requires
-is-label-requires c κs = search needs
+is-label-requires c κs = omega arith
 
 rows-requires : tie.Need-rows-requires
-rows-requires c κs = search needs
+rows-requires c κs = omega arith
 
 refused-requires : tie.Need-refused-requires
-refused-requires c κs = search needs
+refused-requires c κs = omega arith
 
 returns : tie.Need-returns
 returns c =
@@ -32,10 +31,10 @@ passed : (c : tie.Else1) → lent (length (c .before .before .before .before .be
 passed c = sym (rows-are (c .before .rows .ensures) (c .before .before .before .holds .ensures) (c .before .before .is-label .ensures)) ∙ omega arith
 
 longest-run-requires : tie.Need-longest-run-requires
-longest-run-requires c κs = search needs
+longest-run-requires c κs = omega arith
 
 refused-requires-2 : tie.Need-refused-requires-2
-refused-requires-2 c κs = search needs
+refused-requires-2 c κs = omega arith
 
 returns-2 : tie.Need-returns-2
 returns-2 c =
@@ -89,7 +88,7 @@ cast-t22 c =
     record { fits = omega (arith, c .before .before .before .before .before .before .before .before .before .before .before .before .before .before .before .before .before .shared-slice-known .given 3) }
 
 same-length : tie.Need-same-length
-same-length c = search needs
+same-length c = omega arith
 
 returns-3 : tie.Need-returns-3
 returns-3 c =

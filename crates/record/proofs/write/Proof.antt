@@ -6,12 +6,11 @@ use Rattle.sizes.proofs.Ranges.{size-high, levels-few, planes-few}
 use Rattle.paper.specs.Jobs.{writingRefusal}
 use native.Mathlib.Omega.{arith}
 use mathlib.Core.Path.{_≡_, _∙_}
-use borrow.Author.Needs.{needs}
 use Rattle.record.proofs.write.Statement.{statement}
 use Rattle.record.proofs.write.Tie as tie
 
 write-refusal-requires : tie.Need-write-refusal-requires
-write-refusal-requires c κs = search needs
+write-refusal-requires c κs = omega arith
 
 returns : tie.Need-returns
 returns c =
@@ -49,7 +48,7 @@ write-blocks-requires c κs =
     (omega (arith, a .fits, blocks), (label-length _ (a .labelled), (a .lent, omega (arith, few-blocks a, blocks))))
 
 same-length : tie.Need-same-length
-same-length c = search needs
+same-length c = omega arith
 
 returns-2 : tie.Need-returns-2
 returns-2 c =

@@ -5,12 +5,11 @@ use Rattle.paper.specs.Jobs.{sizesRefusal}
 use borrow.Author.Tests.{not-true, not-false}
 use native.Mathlib.Omega.{arith}
 use mathlib.Core.Path.{_≡_, sym, _∙_}
-use borrow.Author.Needs.{needs}
 use Rattle.record.proofs.write_refusal.Statement.{statement}
 use Rattle.record.proofs.write_refusal.Tie as tie
 
 sizes-refusal-requires : tie.Need-sizes-refusal-requires
-sizes-refusal-requires c κs = search needs
+sizes-refusal-requires c κs = omega arith
 
 returns : tie.Need-returns
 returns c =
@@ -18,7 +17,7 @@ returns c =
     c .before .sizes-refusal .ensures ∙ sym (sizes-stand (args .k) (args .levels) _ (omega (arith, c .before .sizes-refusal .ensures)))
 
 planes-in-requires : tie.Need-planes-in-requires
-planes-in-requires c κs = search needs
+planes-in-requires c κs = omega arith
 
 returns-2 : tie.Need-returns-2
 returns-2 c =
@@ -33,10 +32,10 @@ fits-requires c κs =
     (size-accepted (args .k) (args .levels) 0 passed, sym (c .before .planes-in .ensures) ∙ not-false _ (c .if2 .left))
 
 is-label-requires : tie.Need-is-label-requires
-is-label-requires c κs = search needs
+is-label-requires c κs = omega arith
 
 rows-requires : tie.Need-rows-requires
-rows-requires c κs = search needs
+rows-requires c κs = omega arith
 
 returns-3 : tie.Need-returns-3
 returns-3 c =

@@ -1,20 +1,20 @@
 -- `block_of` is the definition's block: the count by arithmetic, the payload and the block by their contracts.
+use native.Mathlib.Omega.{arith}
 use Rattle.writer.proofs.Blocks.{block-is}
-use borrow.Author.Needs.{needs}
 use Rattle.writer.proofs.block_of.Statement.{statement}
 use Rattle.writer.proofs.block_of.Tie as tie
 
 payload-requires : tie.Need-payload-requires
-payload-requires c κs = search needs
+payload-requires c κs = omega arith
 
 count-in-requires : tie.Need-count-in-requires
-count-in-requires c κs = search needs
+count-in-requires c κs = omega arith
 
 slice-aggregate-made : tie.Need-slice-aggregate-made
-slice-aggregate-made c = search needs
+slice-aggregate-made c = omega arith
 
 made-requires : tie.Need-made-requires
-made-requires c κs = search needs
+made-requires c κs = omega arith
 
 returns : tie.Need-returns
 returns c =

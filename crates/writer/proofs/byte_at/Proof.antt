@@ -2,12 +2,11 @@
 use Rattle.writer.proofs.Bytes.{byte-before, byte-after, byte-none, byte-seam}
 use mathlib.Core.Path.{_∙_}
 use native.Mathlib.Omega.{arith}
-use borrow.Author.Needs.{needs}
 use Rattle.writer.proofs.byte_at.Statement.{statement}
 use Rattle.writer.proofs.byte_at.Tie as tie
 
 shared-slice-read-result : tie.Need-shared-slice-read-result
-shared-slice-read-result c = search needs
+shared-slice-read-result c = omega arith
 
 returns : tie.Need-returns
 returns c =
@@ -28,10 +27,10 @@ returns-3 c =
     byte-none (args .bytes .now) (args .b) (args .at) (λ i. c .before .before .before .shared-slice-known .given i .fits) (S .pre) (omega arith) (omega arith)
 
 shared-slice-read-with-bit : tie.Need-shared-slice-read-with-bit
-shared-slice-read-with-bit c = search needs
+shared-slice-read-with-bit c = omega arith
 
 with-bit-requires : tie.Need-with-bit-requires
-with-bit-requires c κs = search needs
+with-bit-requires c κs = omega arith
 
 returns-4 : tie.Need-returns-4
 returns-4 c =

@@ -1,20 +1,20 @@
 -- `payload` is what `fill` makes of 492 zero bytes.
+use native.Mathlib.Omega.{arith}
 use Rattle.writer.proofs.Bytes.{payload-is}
 use Rattle.paper.specs.Bits.{bits}
 use lib.ListN.{take}
 use mathlib.Core.Path.{_∙_}
-use borrow.Author.Needs.{needs}
 use Rattle.writer.proofs.payload.Statement.{statement}
 use Rattle.writer.proofs.payload.Tie as tie
 
 slice-aggregate-fill : tie.Need-slice-aggregate-fill
-slice-aggregate-fill c = search needs
+slice-aggregate-fill c = omega arith
 
 mul-fill : tie.Need-mul-fill
-mul-fill c = search needs
+mul-fill c = omega arith
 
 fill-requires : tie.Need-fill-requires
-fill-requires c κs = search needs
+fill-requires c κs = omega arith
 
 returns : tie.Need-returns
 returns c =

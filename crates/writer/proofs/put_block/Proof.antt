@@ -2,21 +2,20 @@
 use Rattle.block.proofs.Copies.{over-whole}
 use native.Mathlib.Omega.{arith}
 use mathlib.Core.Path.{_∙_}
-use borrow.Author.Needs.{needs}
 use Rattle.writer.proofs.put_block.Statement.{statement}
 use Rattle.writer.proofs.put_block.Tie as tie
 
 block-of-requires : tie.Need-block-of-requires
-block-of-requires c κs = search needs
+block-of-requires c κs = omega arith
 
 slice-aggregate-copy-in : tie.Need-slice-aggregate-copy-in
-slice-aggregate-copy-in c = search needs
+slice-aggregate-copy-in c = omega arith
 
 copy-in-requires : tie.Need-copy-in-requires
-copy-in-requires c κs = search needs
+copy-in-requires c κs = omega arith
 
 same-length : tie.Need-same-length
-same-length c = search needs
+same-length c = omega arith
 
 returns : tie.Need-returns
 returns c =

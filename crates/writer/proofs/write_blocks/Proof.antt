@@ -10,7 +10,6 @@ use native.Mathlib.Omega.{arith}
 use mathlib.Core.List.{_++_}
 use mathlib.Core.Path.{_≡_, refl, ap, _∙_}
 use Prim.Native.Nat.{ℕ, _≤_, _+_, _-_, _*_}
-use borrow.Author.Needs.{needs}
 use Rattle.writer.proofs.write_blocks.Statement.{statement}
 use Rattle.writer.proofs.write_blocks.Tie as tie
 
@@ -26,26 +25,26 @@ loop-holds c =
     (omega arith, refl, none-joined 512 (blockOf (args .k) (args .levels) (args .n) (args .label .now) (take (args .b) (bits (args .bytes .now)))) (args .room .now))
 
 mul-start : tie.Need-mul-start Inv-loop μ-loop
-mul-start c = search needs
+mul-start c = omega arith
 
 add-end : tie.Need-add-end Inv-loop μ-loop
-add-end c = search needs
+add-end c = omega arith
 
 sub-put-block : tie.Need-sub-put-block Inv-loop μ-loop
-sub-put-block c = search needs
+sub-put-block c = omega arith
 
 part-put-block-start : tie.Need-part-put-block-start Inv-loop μ-loop
-part-put-block-start c = search needs
+part-put-block-start c = omega arith
 
 part-put-block-end : tie.Need-part-put-block-end Inv-loop μ-loop
 part-put-block-end c =
     omega arith
 
 put-block-requires : tie.Need-put-block-requires Inv-loop μ-loop
-put-block-requires c κs = search needs
+put-block-requires c κs = omega arith
 
 add-number : tie.Need-add-number Inv-loop μ-loop
-add-number c = search needs
+add-number c = omega arith
 
 loop-less : tie.Need-loop-less Inv-loop μ-loop
 loop-less c =
