@@ -43,6 +43,11 @@ pub even-within : {M : ℕ} {l a b : ℤ} → Within M l → Within M a → With
 unfolding evenOf
 even-within {M} {l} {a} {b} = rw (split l, split a, split b) (simp ints (omega zarith))
 
+-- and a high within M between two such even samples gives an odd one within 4 M
+pub odd-within : {M : ℕ} {h l r : ℤ} → Within M h → Within (2 * M) l → Within (2 * M) r → Within (4 * M) (oddOf h l r)
+unfolding oddOf
+odd-within {M} {h} {l} {r} = rw (split h, split l, split r) (simp ints (omega zarith))
+
 -- ---- sizes
 pub grow : {A B : ℕ} {z : ℤ} → Within A z → A ≤ B → Within B z
 grow h l = record { size = omega (arith, h .size) }

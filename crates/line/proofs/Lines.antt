@@ -10,7 +10,7 @@ use lib.IntN.{ℤ, pos}
 use Rattle.paper.specs.Lists.{made, at}
 use Rattle.paper.specs.Line.{highOf, lowOf, oddOf, evenOf, highAt, lowAt, lineForward, evenAt, oddAt, woven, lineBack}
 use Rattle.integers.specs.Order.{Within}
-use Rattle.lift.proofs.Steps.{odd-high, even-low, high-within, low-within, even-within}
+use Rattle.lift.proofs.Steps.{odd-high, even-low, high-within, low-within, even-within, odd-within, grow}
 use Rattle.line.specs.Each.{Each}
 use Rattle.line.proofs.Made.{length-made, getD-made, each-below}
 use Rattle.line.proofs.Pairs.{by-halves, by-turns, Paired}
@@ -109,3 +109,12 @@ even-at-within y h i E = even-within (E _) (E _) (E _)
 pub forward-each : {M : ℕ} (x : List ℤ) (h : ℕ) → length x ≡ 2 * h → Each M x → Each (2 * M) (lineForward x)
 forward-each {M} x h e E = each-below (lineForward x)
     (λ z l. by-halves (λ z. Within (2 * M) (at (lineForward x) z)) h (λ i k. rw (forward-low x h e i k) (low-at-within x i E)) (λ i k. rw (forward-high x h e i k) (high-at-within x i E)) z (omega (arith, length-forward x h e)))
+
+odd-at-within : {M : ℕ} (y : List ℤ) (h i : ℕ) → Each M y → Within (4 * M) (oddAt y h i)
+unfolding oddAt
+odd-at-within y h i E = odd-within (E _) (even-at-within y h i E) (even-at-within y h _ E)
+
+-- on the way back a line may grow fourfold
+pub back-each : {M : ℕ} (y : List ℤ) (h : ℕ) → length y ≡ 2 * h → Each M y → Each (4 * M) (lineBack y)
+back-each {M} y h e E = each-below (lineBack y)
+    (λ z l. by-turns (λ z. Within (4 * M) (at (lineBack y) z)) h (λ i k. rw (back-even y h e i k) (grow (even-at-within y h i E) (omega arith))) (λ i k. rw (back-odd y h e i k) (odd-at-within y h i E)) z (omega (arith, length-back y h e)))
