@@ -82,11 +82,11 @@ cost-numbers p [] = record { most = omega arith; least = λ h. absurd (omega ari
 cost-numbers p (x ∷ xs) = cost-next {k = 0} {j = 0} (cost-number p x) (cost-numbers p xs)
 
 -- the tests of a set, and of the rest
-setTests : ℕ → ℕ
+unfoldable pub setTests : ℕ → ℕ
 setTests zero = 1
 setTests (suc d) = suc (setTests d + (setTests d + (setTests d + setTests d)))
 
-restTests : ℕ → ℕ → ℕ
+unfoldable pub restTests : ℕ → ℕ → ℕ
 restTests d zero = 0
 restTests d (suc left) = suc (setTests d + (setTests d + (setTests d + restTests (suc d) left)))
 
@@ -110,12 +110,12 @@ unfolding walkPlane
 cost-plane p d L xs h = cost-split (4 ^ suc d) xs (cost-set p d (take (4 ^ suc d) xs)) (cost-rest p d L (drop (4 ^ suc d) xs) h)
 
 -- each plane makes at most (S² - 1) / 3 set tests
-set-tests : (d : ℕ) → 3 * setTests d + 1 ≡ 4 ^ suc d
+pub set-tests : (d : ℕ) → 3 * setTests d + 1 ≡ 4 ^ suc d
 unfolding setTests
 set-tests zero = refl
 set-tests (suc d) = omega (arith, set-tests d, pow-suc 4 (suc d))
 
-rest-tests : (d left : ℕ) → 3 * restTests d left + 4 ^ suc d ≡ 4 ^ (suc d + left)
+pub rest-tests : (d left : ℕ) → 3 * restTests d left + 4 ^ suc d ≡ 4 ^ (suc d + left)
 unfolding restTests
 rest-tests d zero = omega (arith, ap (λ k. 4 ^ k) (let e : suc d ≡ suc d + 0 = omega arith in e))
 rest-tests d (suc left) = omega (arith, set-tests d, rest-tests (suc d) left, pow-suc 4 (suc d), ap (λ k. 4 ^ k) (let e : suc (suc d) + left ≡ suc d + suc left = omega arith in e))

@@ -6,3 +6,4 @@ pub mod Planes
 pub mod Decoded
 pub mod Bound
 pub mod Finished
+pub mod Read
