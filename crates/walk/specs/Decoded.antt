@@ -1,6 +1,6 @@
 -- What the coding of numbers decodes to: all of it, and any first part of it.
 use mathlib.Core.Path.{_≡_, refl, sym, ap, _∙_, subst}
-use mathlib.Core.Bool.{Bool, true, false, _&&_}
+use mathlib.Core.Bool.{Bool, true, false}
 use mathlib.Core.List.{List, [], _∷_, _++_, map, append-nil}
 use Prim.Native.Nat.{ℕ, zero, suc, _+_, _*_, _-_, _/_, _^_, _≤_, _<_, max}
 use native.Mathlib.Nat.{two-pow-succ}
@@ -11,9 +11,10 @@ use borrow.Author.Tests.{leb-true, leb-false, ltb-true, ltb-false}
 use lib.IntN.{ℤ, pos, negℤ, natAbs, _-ℤ_}
 use lib.ListN.{length, take, drop, getD, replicate, length-take, length-drop, length-append, take-append-drop}
 use lib.Seq.{take-all, take-add, drop-cons}
-use Rattle.paper.specs.Sizes.{numbersIn, numberLimit, mostPlanes}
+use Rattle.paper.specs.Sizes.{numbersIn, mostPlanes}
 use Rattle.paper.specs.Lists.{at}
 use Rattle.paper.specs.Walk.{negative, signed, largest, bitsNeeded, planeCount, Coder, Decoder, Tape, walkPlanes, depth, codeOf, decodeOf, Settled}
+use Rattle.sizes.proofs.Numbers.{largest-in}
 use Rattle.integers.specs.Difference.{_⊖_, split, pos-⊖}
 use Rattle.integers.specs.Order.{ints, zarith}
 use Rattle.walk.specs.Cleared.{high, cleared, natAbs-cleared, high-le, lt-high, high-mono, negative-signed, signed-zero, signed-self, cleared-none, cleared-small}
@@ -64,15 +65,6 @@ fits-bits (suc most) m h = go (leb 1 m) refl (λ j. fits-bits most (m / 2) j)
     go : (b : Bool) → leb 1 m ≡ b → (m / 2 < 2 ^ most → m / 2 < 2 ^ bitsNeeded most (m / 2)) → m < 2 ^ (elim b as (λ _. ℕ) [ true ↦ suc (bitsNeeded most (m / 2)) | false ↦ 0 ])
     go true e ih = omega (arith, ih (omega (arith, two-pow-succ most)), two-pow-succ (bitsNeeded most (m / 2)))
     go false e ih = omega (arith, leb-false 1 m e)
-
-largest-in : (xs : List ℤ) → numbersIn xs ≡ true → largest xs ≤ numberLimit
-unfolding numbersIn largest
-largest-in [] e = omega arith
-largest-in (x ∷ xs) e = go (leb (natAbs x) numberLimit) refl e (λ h. largest-in xs h)
-  where
-    go : (b : Bool) → leb (natAbs x) numberLimit ≡ b → (b && numbersIn xs) ≡ true → (numbersIn xs ≡ true → largest xs ≤ numberLimit) → max (natAbs x) (largest xs) ≤ numberLimit
-    go true f e ih = omega (arith, leb-true (natAbs x) numberLimit f, ih e)
-    go false f e ih = absurd (let z : _≡_ {A = ℕ} 0 1 = cc in omega arith)
 
 -- every bit of every number is below plane n, n the plane count
 pub count-fits : (xs : List ℤ) → numbersIn xs ≡ true → largest xs < 2 ^ planeCount xs

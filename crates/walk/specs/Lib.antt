@@ -7,3 +7,4 @@ pub mod Decoded
 pub mod Bound
 pub mod Finished
 pub mod Read
+pub mod Room
