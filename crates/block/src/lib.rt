@@ -1,0 +1,83 @@
+// A 512-byte block: made by value, and checked where it lies.
+ghost use mathlib.Core.Path.{_≡_};
+ghost use mathlib.Core.List.{_++_};
+ghost use Prim.Native.Nat.{_≤_};
+ghost use lib.ListN.{length, take, drop, replicate};
+ghost use Rattle.paper.specs.Lists.{over};
+ghost use Rattle.paper.specs.Block.{edition, header, sealed};
+
+// Where the payload starts, and where the checks stand.
+const PAYLOAD: usize = 16;
+
+const CHECKS: usize = 508;
+
+// `src` over the front of `dst`.
+pub fn copy_in(dst: &mut [u8], src: &[u8])
+    requires { ⌜ length (now src) ≤ length (now dst) ⌝ }
+    ensures { λ _. ⌜ now (dst .exit) ≡ over (now (src .entry)) (now (dst .entry)) ⌝ }
+{
+    let mut i = 0;
+    while i < src.len() {
+        dst[i] = src[i];
+        i += 1;
+    }
+}
+
+// 512 zero bytes with the header in them: the single bytes first, and then the label's part.
+fn headed(k: u8, levels: u8, n: u8, label: &[u8], number: usize, count: usize) -> [u8; 512]
+    requires { ⌜ length (now label) ≡ 8 ⌝ }
+    ensures { λ r. ⌜ r ≡ header edition k levels n (now (label .entry)) number count ++ replicate 496 0 ⌝ }
+{
+    let mut block = [0u8; 512];
+    block[0] = 1;
+    block[1] = k;
+    block[2] = levels;
+    block[3] = n;
+    block[12] = (number / 256 % 256) as u8;
+    block[13] = (number % 256) as u8;
+    block[14] = (count / 256 % 256) as u8;
+    block[15] = (count % 256) as u8;
+    copy_in(&mut block[4..12], label);
+    block
+}
+
+// The payload's part filled.
+fn with_payload(from: [u8; 512], payload: &[u8]) -> [u8; 512]
+    requires { ⌜ length (now payload) ≡ 492 ⌝ }
+    ensures { λ r. ⌜ r ≡ take 16 from ++ (now (payload .entry) ++ drop 508 from) ⌝ }
+{
+    let mut block = from;
+    copy_in(&mut block[PAYLOAD..CHECKS], payload);
+    block
+}
+
+// The two checks added.
+fn with_checks(from: [u8; 512]) -> [u8; 512]
+    ensures { λ r. ⌜ r ≡ sealed (take 508 from) ⌝ }
+{
+    let mut block = from;
+    let a = sums::check_a(&block[0..CHECKS]);
+    let b = sums::check_b(&block[0..CHECKS]);
+    block[508] = (a / 256 % 256) as u8;
+    block[509] = (a % 256) as u8;
+    block[510] = (b / 256 % 256) as u8;
+    block[511] = (b % 256) as u8;
+    block
+}
+
+// A block, by value.
+pub fn made(
+    k: u8,
+    levels: u8,
+    n: u8,
+    label: &[u8],
+    number: usize,
+    count: usize,
+    payload: &[u8],
+) -> [u8; 512]
+    requires { ⌜ length (now label) ≡ 8 ⌝ }
+    requires { ⌜ length (now payload) ≡ 492 ⌝ }
+    ensures { λ r. ⌜ r ≡ sealed (header edition k levels n (now (label .entry)) number count ++ now (payload .entry)) ⌝ }
+{
+    with_checks(with_payload(headed(k, levels, n, label, number, count), payload))
+}
