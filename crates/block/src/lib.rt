@@ -1,15 +1,20 @@
 // A 512-byte block: made by value, and checked where it lies.
 ghost use mathlib.Core.Path.{_≡_};
 ghost use mathlib.Core.List.{_++_};
-ghost use Prim.Native.Nat.{_≤_};
+ghost use Prim.Native.Nat.{_+_, _<_, _≤_};
 ghost use lib.ListN.{length, take, drop, replicate};
 ghost use Rattle.paper.specs.Lists.{over};
-ghost use Rattle.paper.specs.Block.{edition, header, sealed};
+ghost use Rattle.paper.specs.Block.{edition, header, sealed, payloadStart, fieldsRight, checksRight};
+ghost use Rattle.paper.specs.Jobs.{checkJob};
 
 // Where the payload starts, and where the checks stand.
 const PAYLOAD: usize = 16;
 
 const CHECKS: usize = 508;
+
+const PAYLOAD_BITS: usize = 8 * (CHECKS - PAYLOAD);
+
+const EDITION: u8 = 1;
 
 // `src` over the front of `dst`.
 pub fn copy_in(dst: &mut [u8], src: &[u8])
@@ -29,7 +34,7 @@ fn headed(k: u8, levels: u8, n: u8, label: &[u8], number: usize, count: usize) -
     ensures { λ r. ⌜ r ≡ header edition k levels n (now (label .entry)) number count ++ replicate 496 0 ⌝ }
 {
     let mut block = [0u8; 512];
-    block[0] = 1;
+    block[0] = EDITION;
     block[1] = k;
     block[2] = levels;
     block[3] = n;
@@ -80,4 +85,57 @@ pub fn made(
     ensures { λ r. ⌜ r ≡ sealed (header edition k levels n (now (label .entry)) number count ++ now (payload .entry)) ⌝ }
 {
     with_checks(with_payload(headed(k, levels, n, label, number, count), payload))
+}
+
+// Edition, k, L, n, label, payload count and the unused bits are right.
+fn fields_right(block: &[u8]) -> bool
+    requires { ⌜ length (now block) ≡ 512 ⌝ }
+    ensures { λ r. ⌜ r ≡ fieldsRight payloadStart (now (block .entry)) ⌝ }
+{
+    if block[0] != EDITION {
+        return false;
+    }
+    let k = sums::wide(block[1]);
+    if !sizes::size_in(k) {
+        return false;
+    }
+    if !sizes::levels_in(k, sums::wide(block[2])) {
+        return false;
+    }
+    if !sizes::planes_in(sums::wide(block[3])) {
+        return false;
+    }
+    if !fields::is_label(&block[4..12]) {
+        return false;
+    }
+    let count = fields::pair_at(block, 14);
+    if count > PAYLOAD_BITS {
+        return false;
+    }
+    fields::unused_zero(&block[PAYLOAD..CHECKS], count)
+}
+
+// A and B are right.
+fn checks_right(block: &[u8]) -> bool
+    requires { ⌜ length (now block) ≡ 512 ⌝ }
+    ensures { λ r. ⌜ r ≡ checksRight (now (block .entry)) ⌝ }
+{
+    let body = &block[0..CHECKS];
+    if fields::pair_at(block, CHECKS) != sums::check_a(body) as usize {
+        return false;
+    }
+    fields::pair_at(block, CHECKS + 2) == sums::check_b(body) as usize
+}
+
+// The single-block check: 0, or 6, 8 or 9.
+pub fn check(block: &[u8]) -> u32
+    ensures { λ r. ⌜ r ≡ checkJob (now (block .entry)) ⌝ }
+{
+    if block.len() != 512 {
+        return 6;
+    }
+    if !checks_right(block) {
+        return 8;
+    }
+    if fields_right(block) { 0 } else { 9 }
 }
