@@ -2,3 +2,4 @@ pub mod Rows
 pub mod Demand1
 pub mod Settled
 pub mod Shams
+pub mod Way
