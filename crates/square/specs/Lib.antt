@@ -4,3 +4,5 @@ pub mod Undone
 pub mod Sizes
 pub mod Near
 pub mod Range
+pub mod Numbers
+pub mod Picture
