@@ -3,3 +3,5 @@ pub mod Demand1
 pub mod Settled
 pub mod Shams
 pub mod Way
+pub mod Journeys
+pub mod Demand2

@@ -78,7 +78,7 @@ module _ (k L : ℕ) (numbers : List ℤ) (given : Numbers k L numbers) (limit :
 
   -- ---- record writing
   module _ (label : List ℕ) (labelled : isLabel label ≡ true) (room : List ℕ) (blocks-fit : 512 * blocksFor (length written) ≤ length room) where
-    accepted : writingRefusal k L (planeCount numbers) label (laid written bytes) (length written) room ≡ 0
+    pub accepted : writingRefusal k L (planeCount numbers) label (laid written bytes) (length written) room ≡ 0
     unfolding writingRefusal
     accepted = sizes-passed k L _ (given .size) (given .levels) ∙ rw (
       count-in numbers,
