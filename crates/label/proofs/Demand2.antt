@@ -78,11 +78,10 @@ module _ (k L : ℕ) (label picture : List ℕ) (limit : ℕ) (numbers : List �
       let m : 512 * W .blocks / 512 ≡ B = omega (arith, whole-written .1) in
       let out = out-is k L label picture G limit numbers (enough .numbers-hold) bytes room fits (512 * W .blocks) (omega (arith, whole-written .1)) (omega (arith, whole-written .1, b)) payload (omega (arith, m, enough .payload-holds)) lent (enough .lent-holds) shown (enough .shown-holds) greys (enough .greys-hold) in
       let all : decodeOf k L (n k L label picture G) (take (bitsIn (writtenOf k L T limit bytes) (512 * W .blocks / 512)) C) ≡ record { numbers = T; unfinished = 0; read = length C } =
-          all-bits k L T (levels-less k L (G .levels)) (truth-given k L label picture G .square) (truth-given k L label picture G .small) (bitsIn (writtenOf k L T limit bytes) (512 * W .blocks / 512)) (omega (arith, m, ap length all-written)) in
-      let picture-back : pictured k (greysOf k L T) ≡ picture = lossless L k picture (omega (arith, levels-less k L (G .levels))) (G .square) (G .greys) in
-      (
+      all-bits k L T (levels-less k L (G .levels)) (truth-given k L label picture G .square) (truth-given k L label picture G .small) (bitsIn (writtenOf k L T limit bytes) (512 * W .blocks / 512)) (omega (arith, m, ap length all-written)) in
+      let picture-back : pictured k (greysOf k L T) ≡ picture = lossless L k picture (omega (arith, levels-less k L (G .levels))) (G .square) (G .greys) in (
         ap (λ (s : Seen). s .read .refusal) out,
         ap (λ (s : Seen). s .decoded) out ∙ ap settledJob all,
         ap (λ (s : Seen). s .rebuilt) out ∙ ap {B = Inverse} (λ (s : Settled). record { refusal = 0; picture = pictured k (greysOf k L (s .numbers)); room = greysOf k L (s .numbers) }) all
-        ∙ ap {B = Inverse} (λ (g : List ℕ). record { refusal = 0; picture = g; room = greysOf k L T }) picture-back,
+            ∙ ap {B = Inverse} (λ (g : List ℕ). record { refusal = 0; picture = g; room = greysOf k L T }) picture-back,
       )

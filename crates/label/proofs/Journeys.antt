@@ -26,6 +26,14 @@ use Rattle.walk.specs.Room.{decoded-in}
 use Rattle.label.specs.Journey.{intoRecord, Seen, outOfRecord}
 use Rattle.label.proofs.Way.{Numbers, coded, read, decoded}
 
+-- what is seen of the first j blocks of the record of l, where its bits settle s
+abbrev pub seenAs : ℕ → ℕ → ℕ → List Bool → List ℕ → ℕ → Settled → Seen
+seenAs k L n l payload j s = record {
+  read = readBack k L n l payload j;
+  decoded = settledJob s;
+  rebuilt = record { refusal = 0; picture = pictured k (greysOf k L (s .numbers)); room = greysOf k L (s .numbers) };
+}
+
 -- a picture of S² greys, sizes in their range, a label
 pub record Given (k L : ℕ) (label picture : List ℕ) : Type 0 where
   pub size : sizeIn k ≡ true
@@ -87,11 +95,7 @@ module _ (k L : ℕ) (label picture : List ℕ) (given : Given k L label picture
       ))
 
       pub out-is : outOfRecord label (take m ((intoRecord k L label picture limit numbers bytes room) .room)) payload lent shown greys
-          ≡ record {
-            read = readBack k L n recorded payload (m / 512);
-            decoded = settledJob settled;
-            rebuilt = record { refusal = 0; picture = pictured k (greysOf k L (settled .numbers)); room = greysOf k L (settled .numbers) };
-          }
+          ≡ seenAs k L n recorded payload (m / 512) settled
       unfolding outOfRecord
       out-is =
           ap (λ (r : Read). let d = decodingJob (r .k) (r .L) (r .n) lent (r .room) (r .bits) in record { read = r; decoded = d; rebuilt = inverseJob (r .k) (r .L) (d .numbers) shown greys })

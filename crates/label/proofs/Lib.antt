@@ -5,3 +5,4 @@ pub mod Shams
 pub mod Way
 pub mod Journeys
 pub mod Demand2
+pub mod Demand3
