@@ -56,7 +56,7 @@ pub level-each : {M : ℕ} (j : ℕ) (xs : List ℤ) → 0 < j → Each M xs →
 unfolding levelForward
 level-each j xs h E z = grow (pass-each j true _ h (pass-each j false xs h E) z) (omega arith)
 
-le-mul-pow : (a L : ℕ) → a ≤ a * 4 ^ L
+pub le-mul-pow : (a L : ℕ) → a ≤ a * 4 ^ L
 le-mul-pow a zero = omega arith
 le-mul-pow a (suc L) = omega (arith, le-mul-pow a L, mul-assoc a (4 ^ L) 4 ∙ ap (λ (x : ℕ). a * x) (sym (pow-suc 4 L)))
 
