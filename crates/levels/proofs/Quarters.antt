@@ -4,7 +4,8 @@ use mathlib.Core.Bool.{Bool, true, false, not}
 use mathlib.Core.List.{List, _++_}
 use Prim.Native.Nat.{ℕ, zero, suc, _+_, _*_, _-_, _/_, _^_, _<_, _≤_}
 use native.Mathlib.Omega.{arith}
-use native.Mathlib.Nat.{pow-suc, mul-comm, mul-assoc}
+use native.Mathlib.Nat.{pow-suc, pow-le-pow-right, mul-comm, mul-assoc}
+use lib.Dec.{lit<}
 use lib.ListN.{length, take, drop}
 use lib.Seq.{length-take-le}
 use lib.IntN.{ℤ}
@@ -33,18 +34,15 @@ on-is : (n : ℕ) (f : List ℤ → List ℤ) (xs : List ℤ) → onFirst n f xs
 unfolding onFirst
 on-is n f xs = refl
 
--- a quarter of the places, half of a side
+-- a quarter of the places, and a line of half the length
 pub quarter : (k n : ℕ) → 0 < k → n ≡ 4 ^ k → n / 4 ≡ 4 ^ (k - 1)
 quarter zero n h e = omega arith
 quarter (suc k) n h e =
     let r : suc k - 1 ≡ k = omega arith in
     rw r (omega (arith, pow-suc 4 k))
 
-pub half : (k n : ℕ) → 0 < k → n ≡ 2 ^ k → n / 2 ≡ 2 ^ (k - 1)
-half zero n h e = omega arith
-half (suc k) n h e =
-    let r : suc k - 1 ≡ k = omega arith in
-    rw r (omega (arith, pow-suc 2 k))
+pub half-le : (k : ℕ) → 2 ^ (k - 1) ≤ 2 ^ k
+half-le k = pow-le-pow-right {n = 2} (lit< tt) (omega arith)
 
 -- the first n numbers, where n is known by another name
 pub part : (n m : ℕ) (xs : List ℤ) → n ≡ m → n ≤ length xs → length (take n xs) ≡ m

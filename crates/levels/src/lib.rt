@@ -11,8 +11,8 @@ ghost use Rattle.square.specs.Near.{grown};
 ghost use Rattle.pass.specs.Way.{way};
 ghost use Rattle.levels.specs.Level.{levelWay, Fitting, forth};
 
-// One level: rows before columns, or back, columns before rows. `a` and `b` are working room.
-fn level(j: u32, back: bool, xs: &mut [i32], a: &mut [i32], b: &mut [i32])
+// One level: rows before columns, or back, columns before rows. `a` and `b` are working room for one line.
+fn passes(j: u32, back: bool, xs: &mut [i32], a: &mut [i32], b: &mut [i32])
     requires { ⌜ j ≤ mostSize ⌝ }
     requires { ⌜ 0 < j ⌝ }
     requires { ⌜ length (now xs) ≡ 4 ^ j ⌝ }
@@ -26,23 +26,37 @@ fn level(j: u32, back: bool, xs: &mut [i32], a: &mut [i32], b: &mut [i32])
     pass::turn_lines(j, !back, back, xs, a, b);
 }
 
+// One level, with room for one line or more.
+fn level(j: u32, back: bool, xs: &mut [i32], a: &mut [i32], b: &mut [i32])
+    requires { ⌜ j ≤ mostSize ⌝ }
+    requires { ⌜ 0 < j ⌝ }
+    requires { ⌜ length (now xs) ≡ 4 ^ j ⌝ }
+    requires { ⌜ Each lineLimit (now xs) ⌝ }
+    requires { ⌜ Each lineLimit (along (way back) j back (now xs)) ⌝ }
+    requires { ⌜ 2 ^ j ≤ length (now a) ⌝ }
+    requires { ⌜ 2 ^ j ≤ length (now b) ⌝ }
+    ensures { λ _. ⌜ now (xs .exit) ≡ levelWay back j (now (xs .entry)) ⌝ }
+{
+    let s = places::side(j);
+    passes(j, back, xs, &mut a[..s], &mut b[..s]);
+}
+
 // Forward: one level, then those of the upper left quarter.
 fn forward_in(k: u32, levels: u32, xs: &mut [i32], a: &mut [i32], b: &mut [i32])
     requires { ⌜ k ≤ mostSize ⌝ }
     requires { ⌜ levels ≤ k ⌝ }
     requires { ⌜ length (now xs) ≡ 4 ^ k ⌝ }
     requires { ⌜ Fitting forth levels (now xs) ⌝ }
-    requires { ⌜ length (now a) ≡ 2 ^ k ⌝ }
-    requires { ⌜ length (now b) ≡ 2 ^ k ⌝ }
+    requires { ⌜ 2 ^ k ≤ length (now a) ⌝ }
+    requires { ⌜ 2 ^ k ≤ length (now b) ⌝ }
     ensures { λ _. ⌜ now (xs .exit) ≡ levelsForward levels k (now (xs .entry)) ⌝ }
 {
     if levels == 0 {
         return;
     }
     let q = xs.len() / 4;
-    let m = a.len() / 2;
     level(k, false, xs, a, b);
-    forward_in(k - 1, levels - 1, &mut xs[..q], &mut a[..m], &mut b[..m]);
+    forward_in(k - 1, levels - 1, &mut xs[..q], a, b);
 }
 
 // Back: the levels of the upper left quarter, then the one that was first.
@@ -51,20 +65,19 @@ fn back_in(k: u32, levels: u32, xs: &mut [i32], a: &mut [i32], b: &mut [i32])
     requires { ⌜ levels ≤ k ⌝ }
     requires { ⌜ length (now xs) ≡ 4 ^ k ⌝ }
     requires { ⌜ Fitting grown levels (now xs) ⌝ }
-    requires { ⌜ length (now a) ≡ 2 ^ k ⌝ }
-    requires { ⌜ length (now b) ≡ 2 ^ k ⌝ }
+    requires { ⌜ 2 ^ k ≤ length (now a) ⌝ }
+    requires { ⌜ 2 ^ k ≤ length (now b) ⌝ }
     ensures { λ _. ⌜ now (xs .exit) ≡ levelsBack levels k (now (xs .entry)) ⌝ }
 {
     if levels == 0 {
         return;
     }
     let q = xs.len() / 4;
-    let m = a.len() / 2;
-    back_in(k - 1, levels - 1, &mut xs[..q], &mut a[..m], &mut b[..m]);
+    back_in(k - 1, levels - 1, &mut xs[..q], a, b);
     level(k, true, xs, a, b);
 }
 
-// The levels forward, with working room for a line of the largest side.
+// The levels forward, with room for a line of the largest side.
 pub fn forward(k: u32, levels: u32, xs: &mut [i32])
     requires { ⌜ k ≤ mostSize ⌝ }
     requires { ⌜ levels ≤ k ⌝ }
@@ -72,10 +85,9 @@ pub fn forward(k: u32, levels: u32, xs: &mut [i32])
     requires { ⌜ Fitting forth levels (now xs) ⌝ }
     ensures { λ _. ⌜ now (xs .exit) ≡ levelsForward levels k (now (xs .entry)) ⌝ }
 {
-    let s = places::side(k);
     let mut a = [0i32; 256];
     let mut b = [0i32; 256];
-    forward_in(k, levels, xs, &mut a[..s], &mut b[..s]);
+    forward_in(k, levels, xs, &mut a, &mut b);
 }
 
 // The levels back.
@@ -86,8 +98,7 @@ pub fn back(k: u32, levels: u32, xs: &mut [i32])
     requires { ⌜ Fitting grown levels (now xs) ⌝ }
     ensures { λ _. ⌜ now (xs .exit) ≡ levelsBack levels k (now (xs .entry)) ⌝ }
 {
-    let s = places::side(k);
     let mut a = [0i32; 256];
     let mut b = [0i32; 256];
-    back_in(k, levels, xs, &mut a[..s], &mut b[..s]);
+    back_in(k, levels, xs, &mut a, &mut b);
 }

@@ -5,7 +5,7 @@ use native.Mathlib.Omega.{arith}
 use lib.ListN.{length}
 use lib.Seq.{length-take-le}
 use Rattle.paper.specs.Square.{levelsBack}
-use Rattle.levels.proofs.Quarters.{quarter, half, part, back-left, back-fits, back-is}
+use Rattle.levels.proofs.Quarters.{quarter, half-le, part, back-left, back-fits, back-is}
 use borrow.Author.Needs.{needs}
 use borrow.Fn.Kinds.{In}
 use borrow.Fn.PlainCycle.{Measures, is, falls, and}
@@ -66,38 +66,6 @@ back-in-slice-aggregate-back-in : (t : ℕ) → back-in-lts.Need-slice-aggregate
 ) (back-in-at t) back-in.Post
 back-in-slice-aggregate-back-in t c = sym (length-take-le _ _ (omega arith))
 
-back-in-slice-relend-prefix-back-in-2 : (t : ℕ) → back-in-lts.Need-slice-relend-prefix-back-in-2 (
-  back-in-below t,
-  back-in.Post,
-  level-reads.Asked,
-  level-reads.Learnt,
-) (back-in-at t) back-in.Post
-back-in-slice-relend-prefix-back-in-2 t c = search needs
-
-back-in-slice-aggregate-back-in-2 : (t : ℕ) → back-in-lts.Need-slice-aggregate-back-in-2 (
-  back-in-below t,
-  back-in.Post,
-  level-reads.Asked,
-  level-reads.Learnt,
-) (back-in-at t) back-in.Post
-back-in-slice-aggregate-back-in-2 t c = sym (length-take-le _ _ (omega arith))
-
-back-in-slice-relend-prefix-back-in-3 : (t : ℕ) → back-in-lts.Need-slice-relend-prefix-back-in-3 (
-  back-in-below t,
-  back-in.Post,
-  level-reads.Asked,
-  level-reads.Learnt,
-) (back-in-at t) back-in.Post
-back-in-slice-relend-prefix-back-in-3 t c = search needs
-
-back-in-slice-aggregate-back-in-3 : (t : ℕ) → back-in-lts.Need-slice-aggregate-back-in-3 (
-  back-in-below t,
-  back-in.Post,
-  level-reads.Asked,
-  level-reads.Learnt,
-) (back-in-at t) back-in.Post
-back-in-slice-aggregate-back-in-3 t c = sym (length-take-le _ _ (omega arith))
-
 back-in-back-in-requires : (t : ℕ) → back-in-lts.Need-back-in-requires (
   back-in-below t,
   back-in.Post,
@@ -109,8 +77,7 @@ back-in-back-in-requires t c κs =
     let k = s .args .k in
     let p = s .pre .1 in
     let q : length (s .args .xs .now) / 4 ≡ 4 ^ (k - 1) = quarter k (length (s .args .xs .now)) (omega arith) (p .1 .1 .0) in
-    let m : length (s .args .a .now) / 2 ≡ 2 ^ (k - 1) = half k (length (s .args .a .now)) (omega arith) (p .1 .1 .1 .1 .0) in
-    (omega arith, (omega arith, (omega arith, (part _ _ _ q (omega arith), (back-left k (s .args .levels) (s .args .xs .now) (omega arith) (p .1 .1 .1 .0) (length (s .args .xs .now) / 4), (part _ _ _ m (omega arith), part _ _ _ m (omega arith)))))))
+    (omega arith, (omega arith, (omega arith, (part _ _ _ q (omega arith), (back-left k (s .args .levels) (s .args .xs .now) (omega arith) (p .1 .1 .1 .0) (length (s .args .xs .now) / 4), (omega (arith, half-le k), omega (arith, half-le k)))))))
 
 back-in-level-requires : (t : ℕ) → back-in-lts.Need-level-requires (
   back-in-below t,
@@ -179,10 +146,6 @@ pub +back-in-spec : {M : Type 1} → statement M
     (back-in-sub-back-in-2 t)
     (back-in-slice-relend-prefix-back-in t)
     (back-in-slice-aggregate-back-in t)
-    (back-in-slice-relend-prefix-back-in-2 t)
-    (back-in-slice-aggregate-back-in-2 t)
-    (back-in-slice-relend-prefix-back-in-3 t)
-    (back-in-slice-aggregate-back-in-3 t)
     (back-in-back-in-requires t)
     (back-in-level-requires t)
     (back-in-same-length t)

@@ -1,12 +1,12 @@
 -- `levels::forward_in` meets its contract. The measure is the count of levels.
+use mathlib.Core.Bool.{false}
 use mathlib.Core.Path.{_≡_, refl, sym, ap, _∙_}
 use Prim.Native.Nat.{ℕ, _-_, _/_, _^_, _<_, _≤_}
 use native.Mathlib.Omega.{arith}
 use lib.ListN.{length}
 use lib.Seq.{length-take-le}
-use mathlib.Core.Bool.{false}
 use Rattle.paper.specs.Square.{levelsForward}
-use Rattle.levels.proofs.Quarters.{length-way, quarter, half, part, forward-fits, forward-left, forward-is}
+use Rattle.levels.proofs.Quarters.{length-way, quarter, half-le, part, forward-fits, forward-left, forward-is}
 use borrow.Author.Needs.{needs}
 use borrow.Fn.Kinds.{In}
 use borrow.Fn.PlainCycle.{Measures, is, falls, and}
@@ -82,42 +82,6 @@ forward-in-slice-aggregate-forward-in : (t : ℕ) → forward-in-lts.Need-slice-
 ) (forward-in-at t) forward-in.Post
 forward-in-slice-aggregate-forward-in t c = sym (length-take-le _ _ (omega arith))
 
-forward-in-slice-relend-prefix-forward-in-2 :
-    (t : ℕ) → forward-in-lts.Need-slice-relend-prefix-forward-in-2 (
-      level-reads.Asked,
-      level-reads.Learnt,
-      forward-in-below t,
-      forward-in.Post,
-    ) (forward-in-at t) forward-in.Post
-forward-in-slice-relend-prefix-forward-in-2 t c = search needs
-
-forward-in-slice-aggregate-forward-in-2 :
-    (t : ℕ) → forward-in-lts.Need-slice-aggregate-forward-in-2 (
-      level-reads.Asked,
-      level-reads.Learnt,
-      forward-in-below t,
-      forward-in.Post,
-    ) (forward-in-at t) forward-in.Post
-forward-in-slice-aggregate-forward-in-2 t c = sym (length-take-le _ _ (omega arith))
-
-forward-in-slice-relend-prefix-forward-in-3 :
-    (t : ℕ) → forward-in-lts.Need-slice-relend-prefix-forward-in-3 (
-      level-reads.Asked,
-      level-reads.Learnt,
-      forward-in-below t,
-      forward-in.Post,
-    ) (forward-in-at t) forward-in.Post
-forward-in-slice-relend-prefix-forward-in-3 t c = search needs
-
-forward-in-slice-aggregate-forward-in-3 :
-    (t : ℕ) → forward-in-lts.Need-slice-aggregate-forward-in-3 (
-      level-reads.Asked,
-      level-reads.Learnt,
-      forward-in-below t,
-      forward-in.Post,
-    ) (forward-in-at t) forward-in.Post
-forward-in-slice-aggregate-forward-in-3 t c = sym (length-take-le _ _ (omega arith))
-
 forward-in-forward-in-requires : (t : ℕ) → forward-in-lts.Need-forward-in-requires (
   level-reads.Asked,
   level-reads.Learnt,
@@ -132,8 +96,7 @@ forward-in-forward-in-requires t c κs =
     let e = v .level .ensures in
     let n = ap length e ∙ length-way false k (s .args .xs .now) in
     let q : length (s .args .xs .now) / 4 ≡ 4 ^ (k - 1) = quarter k (length (s .args .xs .now)) (omega arith) (p .1 .1 .0) in
-    let m : length (s .args .a .now) / 2 ≡ 2 ^ (k - 1) = half k (length (s .args .a .now)) (omega arith) (p .1 .1 .1 .1 .0) in
-    (omega arith, (omega arith, (omega arith, (part _ _ _ q (omega arith), (forward-left k (s .args .levels) (s .args .xs .now) (omega arith) (omega arith) (p .1 .1 .1 .0) (length (s .args .xs .now) / 4) _ e, (part _ _ _ m (omega arith), part _ _ _ m (omega arith)))))))
+    (omega arith, (omega arith, (omega arith, (part _ _ _ q (omega arith), (forward-left k (s .args .levels) (s .args .xs .now) (omega arith) (omega arith) (p .1 .1 .1 .0) (length (s .args .xs .now) / 4) _ e, (omega (arith, half-le k), omega (arith, half-le k)))))))
 
 forward-in-same-length : (t : ℕ) → forward-in-lts.Need-same-length (
   level-reads.Asked,
@@ -188,10 +151,6 @@ pub +forward-in-spec : {M : Type 1} → statement M
     (forward-in-sub-forward-in-2 t)
     (forward-in-slice-relend-prefix-forward-in t)
     (forward-in-slice-aggregate-forward-in t)
-    (forward-in-slice-relend-prefix-forward-in-2 t)
-    (forward-in-slice-aggregate-forward-in-2 t)
-    (forward-in-slice-relend-prefix-forward-in-3 t)
-    (forward-in-slice-aggregate-forward-in-3 t)
     (forward-in-forward-in-requires t)
     (forward-in-same-length t)
     (forward-in-same-length-2 t)
