@@ -1,5 +1,5 @@
 -- One level, and the levels of its upper left quarter.
-use mathlib.Core.Path.{_≡_, refl, sym, ap, _∙_}
+use mathlib.Core.Path.{_≡_, refl, sym, _∙_}
 use mathlib.Core.Bool.{Bool, true, false, not}
 use mathlib.Core.List.{List, _++_}
 use Prim.Native.Nat.{ℕ, zero, suc, _+_, _*_, _-_, _/_, _^_, _<_, _≤_}
@@ -9,7 +9,6 @@ use lib.Dec.{lit<}
 use lib.ListN.{length, take, drop}
 use lib.Seq.{length-take-le}
 use lib.IntN.{ℤ}
-use Rattle.paper.specs.Line.{lineForward, lineBack}
 use Rattle.paper.specs.Square.{along, levelForward, levelBack, onFirst, levelsForward, levelsBack}
 use Rattle.lift.proofs.Steps.{grow}
 use Rattle.line.specs.Each.{Each, lineLimit}

@@ -1,8 +1,7 @@
 // L levels of a square in Z order, in lent memory. The upper left quarter is the first quarter of the places, so the next
 // level is the same work on a part of the slice.
 ghost use mathlib.Core.Path.{_≡_};
-ghost use mathlib.Core.Bool.{Bool};
-ghost use Prim.Native.Nat.{ℕ, _*_, _^_, _<_, _≤_};
+ghost use Prim.Native.Nat.{_^_, _<_, _≤_};
 ghost use lib.ListN.{length};
 ghost use Rattle.paper.specs.Sizes.{mostSize};
 ghost use Rattle.paper.specs.Square.{along, levelsForward, levelsBack};

@@ -1,7 +1,6 @@
 // A pass along the lines of a square in Z order, in lent memory: rows or columns, forward or back, by one routine.
 ghost use mathlib.Core.Path.{_≡_};
-ghost use mathlib.Core.Bool.{Bool};
-ghost use Prim.Native.Nat.{ℕ, _+_, _*_, _/_, _^_, _<_, _≤_};
+ghost use Prim.Native.Nat.{_+_, _*_, _/_, _^_, _<_, _≤_};
 ghost use lib.ListN.{length};
 ghost use Rattle.paper.specs.Sizes.{mostSize};
 ghost use Rattle.paper.specs.Places.{interleaved};

@@ -11,7 +11,7 @@ use lib.Seq.{length-take-le, getD-take}
 use lib.IntN.{ℤ, pos}
 use Rattle.paper.specs.Lists.{at}
 use Rattle.paper.specs.Line.{lineForward}
-use Rattle.paper.specs.Square.{placeOf, line, along, levelForward, onFirst, levelsForward}
+use Rattle.paper.specs.Square.{line, along, levelForward, onFirst, levelsForward}
 use Rattle.integers.specs.Order.{Within}
 use Rattle.lift.proofs.Steps.{grow, zero-within}
 use Rattle.line.specs.Each.{Each}

@@ -2,11 +2,11 @@
 // Both take whatever they are given: what is out of range is refused by its number and nothing lent is changed.
 ghost use mathlib.Core.Path.{_≡_};
 ghost use mathlib.Core.Bool.{true};
-ghost use Prim.Native.Nat.{ℕ, _^_};
+ghost use Prim.Native.Nat.{_^_};
 ghost use lib.ListN.{length};
 ghost use Rattle.paper.specs.Sizes.{sizeIn, levelsIn, numbersIn};
-ghost use Rattle.paper.specs.Square.{numbersOf, greysOf, pictured};
-ghost use Rattle.paper.specs.Jobs.{forwardRefusal, Forward, forwardJob, inverseRefusal, Inverse, inverseJob};
+ghost use Rattle.paper.specs.Square.{numbersOf, greysOf};
+ghost use Rattle.paper.specs.Jobs.{forwardRefusal, forwardJob, inverseRefusal, inverseJob};
 
 // What the job forward answers: why it refused, or 0, and the plane count n.
 pub struct Planes {

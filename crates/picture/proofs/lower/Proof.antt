@@ -1,6 +1,6 @@
 -- `picture::lower` meets its contract. After z turns the first z places are filled.
 use mathlib.Core.Path.{_≡_, refl, _∙_}
-use Prim.Native.Nat.{ℕ, _≤_, _-_, _^_}
+use Prim.Native.Nat.{_≤_, _-_, _^_}
 use native.Mathlib.Omega.{arith}
 use lib.ListN.{length, getD, length-set}
 use lib.IntN.{pos, _-ℤ_}

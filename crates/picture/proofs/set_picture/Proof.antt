@@ -1,9 +1,9 @@
 -- `picture::set_picture` meets its contract. After p turns the first p places are filled.
 use mathlib.Core.Path.{_≡_, refl, _∙_}
-use Prim.Native.Nat.{ℕ, _≤_, _-_, _^_}
+use Prim.Native.Nat.{_≤_, _-_, _^_}
 use native.Mathlib.Omega.{arith}
 use lib.ListN.{length, length-set}
-use Rattle.integers.specs.Machine.{read, pass}
+use Rattle.integers.specs.Machine.{read}
 use Rattle.paper.specs.Lists.{at}
 use Rattle.paper.specs.Places.{zOf}
 use Rattle.paper.specs.Square.{grey, pictured}
