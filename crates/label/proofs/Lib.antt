@@ -1,0 +1,4 @@
+pub mod Rows
+pub mod Demand1
+pub mod Settled
+pub mod Shams

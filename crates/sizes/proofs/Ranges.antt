@@ -1,0 +1,82 @@
+-- What it means that a size is in its range, and that a row of the refusal table does not apply.
+use mathlib.Core.Path.{_≡_, refl, sym, ap, _∙_}
+use mathlib.Core.Bool.{Bool, true, false, _&&_}
+use Prim.Native.Nat.{ℕ, zero, suc, _+_, _*_, _-_, _/_, _%_, _^_, _<_, _≤_, min}
+use native.Mathlib.Omega.{arith}
+use native.Mathlib.Nat.{pow-le-pow-right}
+use lib.Dec.{leb, ltb}
+use borrow.Author.Tests.{leb-true, le-leb, lt-leb, ltb-true, ltb-false}
+use Rattle.paper.specs.Sizes.{sizeIn, levelsIn, planesIn}
+
+-- ---- both of two tests
+pub both-first : (a b : Bool) → (a && b) ≡ true → a ≡ true
+both-first true b e = refl
+both-first false b e = e
+
+pub both-second : (a b : Bool) → (a && b) ≡ true → b ≡ true
+both-second true b e = e
+both-second false true e = refl
+both-second false false e = e
+
+-- ---- k
+pub size-low : (k : ℕ) → sizeIn k ≡ true → 3 ≤ k
+unfolding sizeIn
+size-low k e = leb-true 3 k (both-first (leb 3 k) (leb k 8) e)
+
+pub size-high : (k : ℕ) → sizeIn k ≡ true → k ≤ 8
+unfolding sizeIn
+size-high k e = leb-true k 8 (both-second (leb 3 k) (leb k 8) e)
+
+pub size-short : (k : ℕ) → k < 3 → sizeIn k ≡ false
+unfolding sizeIn
+size-short k h = rw (lt-leb 3 k h)
+
+pub size-tall : (k : ℕ) → 3 ≤ k → sizeIn k ≡ leb k 8
+unfolding sizeIn
+size-tall k h = rw (le-leb 3 k h)
+
+-- the places of a picture are at most 65,536
+pub area-most : (k : ℕ) → sizeIn k ≡ true → 4 ^ k ≤ 65536
+area-most k e = pow-le-pow-right {n = 4} (omega arith) {i = k} {j = 8} (size-high k e)
+
+-- ---- L
+pub levels-some : (k L : ℕ) → levelsIn k L ≡ true → 1 ≤ L
+unfolding levelsIn
+levels-some k L e = leb-true 1 L (both-first (leb 1 L) (leb L (min 5 (k - 1))) e)
+
+pub levels-few : (k L : ℕ) → levelsIn k L ≡ true → L ≤ 5
+unfolding levelsIn
+levels-few k L e = omega (arith, leb-true L (min 5 (k - 1)) (both-second (leb 1 L) (leb L (min 5 (k - 1))) e))
+
+pub levels-less : (k L : ℕ) → levelsIn k L ≡ true → L < k
+unfolding levelsIn
+levels-less k L e = omega (arith, leb-true L (min 5 (k - 1)) (both-second (leb 1 L) (leb L (min 5 (k - 1))) e), leb-true 1 L (both-first (leb 1 L) (leb L (min 5 (k - 1))) e))
+
+pub levels-none : (k L : ℕ) → L < 1 → levelsIn k L ≡ false
+unfolding levelsIn
+levels-none k L h = rw (lt-leb 1 L h)
+
+pub levels-many : (k L : ℕ) → 1 ≤ L → min 5 (k - 1) < L → levelsIn k L ≡ false
+unfolding levelsIn
+levels-many k L h l = rw (le-leb 1 L h, lt-leb L (min 5 (k - 1)) l)
+
+pub levels-right : (k L : ℕ) → 1 ≤ L → L ≤ min 5 (k - 1) → levelsIn k L ≡ true
+unfolding levelsIn
+levels-right k L h l = rw (le-leb 1 L h, le-leb L (min 5 (k - 1)) l)
+
+-- between 1 and 5, L is in its range where it is below k
+pub levels-short : (k L : ℕ) → 1 ≤ L → L ≤ 5 → levelsIn k L ≡ ltb L k
+levels-short k L h f = go (ltb L k) refl
+  where
+    go : (b : Bool) → ltb L k ≡ b → levelsIn k L ≡ b
+    go true e = levels-right k L h (omega (arith, ltb-true L k e))
+    go false e = levels-many k L h (omega (arith, ltb-false L k e))
+
+-- ---- n
+pub planes-few : (n : ℕ) → planesIn n ≡ true → n ≤ 18
+unfolding planesIn
+planes-few n e = leb-true n 18 e
+
+pub planes-is : (n : ℕ) → leb n 18 ≡ planesIn n
+unfolding planesIn
+planes-is n = refl

@@ -1,0 +1,62 @@
+-- How a refusal is judged: what each row leaves to the later ones.
+use mathlib.Core.Path.{_≡_, refl, sym, ap, _∙_}
+use mathlib.Core.Bool.{Bool, true, false}
+use Prim.Native.Nat.{ℕ, zero, suc, _<_}
+use native.Mathlib.Omega.{arith}
+use Rattle.paper.specs.Sizes.{sizeIn, levelsIn, unless, judged}
+use Rattle.paper.specs.Jobs.{sizesRefusal}
+
+-- where no row applies, this one doesn't, and no later one does
+pub row-passed : (r : ℕ) (b : Bool) (later : ℕ) → unless (suc r) b later ≡ 0 → b ≡ true
+row-passed r true later e = refl
+row-passed r false later e = absurd (let z : suc r ≡ 0 = e in omega arith)
+
+pub rows-left : (r : ℕ) (b : Bool) (later : ℕ) → unless (suc r) b later ≡ 0 → later ≡ 0
+rows-left r true later e = e
+rows-left r false later e = absurd (let z : suc r ≡ 0 = e in omega arith)
+
+-- rows 1 and 2
+pub sizes-passed : (k L later : ℕ) → sizeIn k ≡ true → levelsIn k L ≡ true → sizesRefusal k L later ≡ later
+unfolding sizesRefusal
+sizes-passed k L later s l = rw (s, l)
+
+pub size-refused : (k L later : ℕ) → sizeIn k ≡ false → sizesRefusal k L later ≡ 1
+unfolding sizesRefusal
+size-refused k L later s = rw s
+
+pub levels-refused : (k L later : ℕ) → sizeIn k ≡ true → levelsIn k L ≡ false → sizesRefusal k L later ≡ 2
+unfolding sizesRefusal
+levels-refused k L later s l = rw (s, l)
+
+pub size-accepted : (k L later : ℕ) → sizesRefusal k L later ≡ 0 → sizeIn k ≡ true
+unfolding sizesRefusal
+size-accepted k L later e = row-passed 0 (sizeIn k) (unless 2 (levelsIn k L) later) e
+
+pub levels-accepted : (k L later : ℕ) → sizesRefusal k L later ≡ 0 → levelsIn k L ≡ true
+unfolding sizesRefusal
+levels-accepted k L later e = row-passed 1 (levelsIn k L) later (rows-left 0 (sizeIn k) (unless 2 (levelsIn k L) later) e)
+
+pub sizes-left : (k L later : ℕ) → sizesRefusal k L later ≡ 0 → later ≡ 0
+unfolding sizesRefusal
+sizes-left k L later e = rows-left 1 (levelsIn k L) later (rows-left 0 (sizeIn k) (unless 2 (levelsIn k L) later) e)
+
+-- rows 1 and 2 alone decide, or leave it to the later ones
+pub sizes-stand : (k L later : ℕ) → 0 < sizesRefusal k L 0 → sizesRefusal k L later ≡ sizesRefusal k L 0
+unfolding sizesRefusal
+sizes-stand k L later h = go (sizeIn k) (levelsIn k L) h
+  where
+    go : (s l : Bool) → 0 < unless 1 s (unless 2 l 0) → unless 1 s (unless 2 l later) ≡ unless 1 s (unless 2 l 0)
+    go true true h = absurd (omega arith)
+    go true false h = refl
+    go false l h = refl
+
+pub sizes-leave : (k L later : ℕ) → sizesRefusal k L 0 ≡ 0 → sizesRefusal k L later ≡ later
+sizes-leave k L later e = sizes-passed k L later (size-accepted k L 0 e) (levels-accepted k L 0 e)
+
+-- a job refused, and a job done
+pub refused-is : {A : Type 0} (r : ℕ) (refused : ℕ → A) (done : A) → 0 < r → judged r refused done ≡ refused r
+refused-is zero refused done h = absurd (omega arith)
+refused-is (suc r) refused done h = refl
+
+pub done-is : {A : Type 0} (r : ℕ) (refused : ℕ → A) (done : A) → r ≡ 0 → judged r refused done ≡ done
+done-is r refused done e = rw e

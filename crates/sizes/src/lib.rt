@@ -1,0 +1,140 @@
+// The paper's sizes and limits: which sides, levels, planes and numbers are in range, and what follows from them.
+ghost use mathlib.Core.Path.{_≡_};
+ghost use mathlib.Core.Bool.{true};
+ghost use Prim.Native.Nat.{ℕ, _+_, _*_, _/_, _^_, _≤_, max};
+ghost use lib.Dec.{leb};
+ghost use lib.IntN.{natAbs};
+ghost use Rattle.paper.specs.Sizes.{sizeIn, levelsIn, planesIn, numbersIn, numberLimit, mostBits};
+ghost use Rattle.paper.specs.Walk.{largest, bitsNeeded, planeCount};
+ghost use Rattle.paper.specs.Jobs.{sizesRefusal};
+
+// k from 3 to 8.
+pub fn size_in(k: u32) -> bool
+    ensures { λ r. ⌜ r ≡ sizeIn k ⌝ }
+{
+    if k < 3 {
+        return false;
+    }
+    k <= 8
+}
+
+// L from 1 to the smaller of 5 and k - 1.
+pub fn levels_in(k: u32, levels: u32) -> bool
+    ensures { λ r. ⌜ r ≡ levelsIn k levels ⌝ }
+{
+    if levels < 1 {
+        return false;
+    }
+    if levels > 5 {
+        return false;
+    }
+    levels < k
+}
+
+// n at most 18.
+pub fn planes_in(n: u32) -> bool
+    ensures { λ r. ⌜ r ≡ planesIn n ⌝ }
+{
+    n <= 18
+}
+
+// Refusals 1 and 2, or 0.
+pub fn sizes_refusal(k: u32, levels: u32) -> u32
+    ensures { λ r. ⌜ r ≡ sizesRefusal k levels 0 ⌝ }
+{
+    if !size_in(k) {
+        return 1;
+    }
+    if levels_in(k, levels) { 0 } else { 2 }
+}
+
+// S², the places of a picture.
+pub fn area(k: u32) -> usize
+    requires { ⌜ sizeIn k ≡ true ⌝ }
+    ensures { λ r. ⌜ r ≡ 4 ^ k ⌝ }
+{
+    1usize << (2 * k)
+}
+
+// The most bits that a coding of n planes has.
+pub fn most_bits(k: u32, n: u32) -> usize
+    requires { ⌜ sizeIn k ≡ true ⌝ }
+    requires { ⌜ planesIn n ≡ true ⌝ }
+    ensures { λ r. ⌜ r ≡ mostBits k n ⌝ }
+{
+    let places = area(k);
+    n as usize * (4 * places - 1) / 3 + places
+}
+
+// A number within ±262,143. Compared with both limits, since the least 32-bit number has no magnitude of 32 bits.
+pub fn number_in(x: i32) -> bool
+    ensures { λ r. ⌜ r ≡ leb (natAbs x) numberLimit ⌝ }
+{
+    if x < -262143 {
+        return false;
+    }
+    x <= 262143
+}
+
+// No number beyond ±262,143.
+pub fn numbers_in(xs: &[i32]) -> bool
+    ensures { λ r. ⌜ r ≡ numbersIn (now (xs .entry)) ⌝ }
+{
+    let mut i = 0;
+    while i < xs.len() {
+        if !number_in(xs[i]) {
+            return false;
+        }
+        i += 1;
+    }
+    true
+}
+
+fn larger(a: u32, b: u32) -> u32
+    ensures { λ r. ⌜ r ≡ max a b ⌝ }
+{
+    if a < b { b } else { a }
+}
+
+fn magnitude(x: i32) -> u32
+    requires { ⌜ leb (natAbs x) numberLimit ≡ true ⌝ }
+    ensures { λ r. ⌜ r ≡ natAbs x ⌝ }
+{
+    if x < 0 { (0 - x) as u32 } else { x as u32 }
+}
+
+// The largest magnitude.
+fn largest(xs: &[i32]) -> u32
+    requires { ⌜ numbersIn (now xs) ≡ true ⌝ }
+    ensures { λ r. ⌜ r ≡ largest (now (xs .entry)) ⌝ }
+{
+    let mut most: u32 = 0;
+    let mut i = 0;
+    while i < xs.len() {
+        most = larger(most, magnitude(xs[i]));
+        i += 1;
+    }
+    most
+}
+
+// The bits that a magnitude needs.
+fn bits_needed(m: u32) -> u32
+    requires { ⌜ m ≤ numberLimit ⌝ }
+    ensures { λ r. ⌜ r ≡ bitsNeeded 18 m ⌝ }
+{
+    let mut left = m;
+    let mut n: u32 = 0;
+    while left > 0 {
+        left = left / 2;
+        n += 1;
+    }
+    n
+}
+
+// n: the bits needed for the largest magnitude.
+pub fn plane_count(xs: &[i32]) -> u32
+    requires { ⌜ numbersIn (now xs) ≡ true ⌝ }
+    ensures { λ r. ⌜ r ≡ planeCount (now (xs .entry)) ⌝ }
+{
+    bits_needed(largest(xs))
+}
