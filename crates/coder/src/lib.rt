@@ -82,27 +82,27 @@ fn code_set(xs: &[i32], p: u32, out: &mut [u8], at: usize, limit: usize) -> usiz
 }
 
 // The rest, behind q places: its test, then the sets of length q at its start, and the rest behind 4q places.
-fn code_rest(xs: &[i32], q: usize, p: u32, out: &mut [u8], at: usize, limit: usize) -> usize
-    requires { ⌜ numbersIn (now xs) ≡ true ⌝ }
+fn code_rest(rest: &[i32], q: usize, p: u32, out: &mut [u8], at: usize, limit: usize) -> usize
+    requires { ⌜ numbersIn (now rest) ≡ true ⌝ }
     requires { ⌜ p < mostPlanes ⌝ }
     requires { ⌜ limit ≤ 8 * length (now out) ⌝ }
-    requires { ⌜ Rest (now xs) q ⌝ }
-    ensures { λ r. ⌜ CodedRest p limit q (now (xs .entry)) (now (out .entry), at) (now (out .exit), r) ⌝ }
+    requires { ⌜ Rest (now rest) q ⌝ }
+    ensures { λ r. ⌜ CodedRest p limit q (now (rest .entry)) (now (out .entry), at) (now (out .exit), r) ⌝ }
 {
-    if xs.len() == 0 {
+    if rest.len() == 0 {
         return at;
     }
-    let s = scan::scan(xs, p);
+    let s = scan::scan(rest, p);
     let a = say(s, out, at, limit);
     if let Seen::Closed = s {
         return a;
     }
     let q2 = q + q;
     let q3 = q2 + q;
-    let b = code_set(&xs[0..q], p, out, a, limit);
-    let c = code_set(&xs[q..q2], p, out, b, limit);
-    let e = code_set(&xs[q2..q3], p, out, c, limit);
-    code_rest(&xs[q3..], q3 + q, p, out, e, limit)
+    let b = code_set(&rest[0..q], p, out, a, limit);
+    let c = code_set(&rest[q..q2], p, out, b, limit);
+    let e = code_set(&rest[q2..q3], p, out, c, limit);
+    code_rest(&rest[q3..], q3 + q, p, out, e, limit)
 }
 
 // One plane: the set of the first places, then the rest.

@@ -1,3 +1,4 @@
+-- The shift and the remainder are the bit that the list of bits has there.
 use borrow.Author.Needs.{needs}
 use Rattle.bits.proofs.OneBit.{bit-is}
 use Rattle.bits.proofs.bit_at.Tie as tie

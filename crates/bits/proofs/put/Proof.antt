@@ -1,3 +1,4 @@
+-- At the limit nothing, below it one byte changed.
 use borrow.Author.Tests.{lt-ltb, le-ltb}
 use borrow.Author.Needs.{needs}
 use Rattle.bits.specs.Bits.{put1}

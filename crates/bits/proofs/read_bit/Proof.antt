@@ -1,3 +1,4 @@
+-- A bit that is there, and one that is missed.
 use borrow.Author.Needs.{needs}
 use Rattle.bits.proofs.OneBit.{read-yes, read-no}
 use Rattle.bits.proofs.read_bit.Tie as tie

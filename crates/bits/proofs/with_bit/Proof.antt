@@ -1,3 +1,4 @@
+-- The parts of the byte fit, whichever of its eight bits is put.
 use native.Mathlib.Omega.{arith}
 use borrow.Author.Needs.{needs}
 use Rattle.bits.proofs.OneBit.{fit, bit-one, bit-zero}

@@ -94,7 +94,7 @@ code-rest-part-code-set-end t c =
 code-rest-code-set-requires : (t : ℕ) → code-rest-lts.Need-code-set-requires (claims t) (code-rest-at t) code-rest.Post
 code-rest-code-set-requires t c κs =
     let S = c .before .before .before .before .before .before .before .before .before .before in
-    let xs = S .args .xs .now in
+    let xs = S .args .rest .now in
     let q = S .args .q in
     let F = further xs q (S .pre .1 .1 .1 .1) (c .before .before .before .before .before .before .before .before .if1 .left) in
     let P = part xs (0) (q) (S .pre .1 .0) (omega arith) (omega (arith, F .on .fits)) in
@@ -127,7 +127,7 @@ code-rest-part-code-set-end-2 t c =
 code-rest-code-set-requires-2 : (t : ℕ) → code-rest-lts.Need-code-set-requires-2 (claims t) (code-rest-at t) code-rest.Post
 code-rest-code-set-requires-2 t c κs =
     let S = c .before .before .before .before .before .before .before .before .before .before .before .before .before .before .before in
-    let xs = S .args .xs .now in
+    let xs = S .args .rest .now in
     let q = S .args .q in
     let F = further xs q (S .pre .1 .1 .1 .1) (c .before .before .before .before .before .before .before .before .before .before .before .before .before .if1 .left) in
     let P = part xs (q) (q + q) (S .pre .1 .0) (omega arith) (omega (arith, F .on .fits)) in
@@ -160,7 +160,7 @@ code-rest-part-code-set-end-3 t c =
 code-rest-code-set-requires-3 : (t : ℕ) → code-rest-lts.Need-code-set-requires-3 (claims t) (code-rest-at t) code-rest.Post
 code-rest-code-set-requires-3 t c κs =
     let S = c .before .before .before .before .before .before .before .before .before .before .before .before .before .before .before .before .before .before .before .before in
-    let xs = S .args .xs .now in
+    let xs = S .args .rest .now in
     let q = S .args .q in
     let F = further xs q (S .pre .1 .1 .1 .1) (c .before .before .before .before .before .before .before .before .before .before .before .before .before .before .before .before .before .before .if1 .left) in
     let P = part xs (q + q) (q + q + q) (S .pre .1 .0) (omega arith) (omega (arith, F .on .fits)) in
@@ -199,7 +199,7 @@ code-rest-add-code-rest t c =
 code-rest-code-rest-requires : (t : ℕ) → code-rest-lts.Need-code-rest-requires (claims t) (code-rest-at t) code-rest.Post
 code-rest-code-rest-requires t c κs =
     let S = c .before .before .before .before .before .before .before .before .before .before .before .before .before .before .before .before .before .before .before .before .before .before .before .before .before in
-    let xs = S .args .xs .now in
+    let xs = S .args .rest .now in
     let q = S .args .q in
     let F = further xs q (S .pre .1 .1 .1 .1) (c .before .before .before .before .before .before .before .before .before .before .before .before .before .before .before .before .before .before .before .before .before .before .before .if1 .left) in
     let P = part xs (q + q + q) (length xs) (S .pre .1 .0) (F .on .fits) (omega arith) in

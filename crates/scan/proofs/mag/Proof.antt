@@ -1,3 +1,4 @@
+-- A number below 0 is turned, another is its own magnitude.
 use mathlib.Core.Bool.{true, false}
 use mathlib.Core.Path.{ap}
 use lib.IntN.{natAbs}

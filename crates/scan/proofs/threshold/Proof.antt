@@ -1,3 +1,4 @@
+-- The shift is a power of 2 that fits.
 use borrow.Author.Needs.{needs}
 use Rattle.scan.proofs.Reached.{shifted}
 use Rattle.scan.proofs.threshold.Tie as tie
