@@ -1,5 +1,5 @@
--- A slice in four parts, the first three of length q, each handed down and written one after the other; and what the
--- walk makes of three sets and what lies behind them.
+-- A slice in four parts, the first three sets of length q, each handed down and written one after the other: what each
+-- part is, that it is ready to be read, and what the walk makes of all.
 use mathlib.Core.Path.{_≡_, refl, sym, ap, _∙_, subst}
 use mathlib.Core.List.{List, [], _++_, append-nil, append-assoc}
 use Prim.Native.Nat.{ℕ, suc, _+_, _*_, _-_, _^_, _≤_}
@@ -11,9 +11,10 @@ use lib.Seq.{take-at, drop-at}
 use borrow.Rule.Slice.PartMut.{putMid, postOf}
 use Rattle.paper.specs.Walk.{Decoder, walkSet, _next_}
 use Rattle.walk.specs.Asks.{behind}
+use Rattle.walk.specs.Room.{Room, room-take, room-drop}
 use Rattle.walk.specs.Together.{Decodes, decode-next}
 use Rattle.bits.specs.Bits.{tapeOf}
-use Rattle.decoder.specs.Walked.{Walked, SetRead}
+use Rattle.decoder.specs.Walked.{IsSet, Walked, SetRead}
 
 -- a part in the middle, written over and read
 pub put-at : (p x z u : List ℤ) (a k : ℕ) → length p ≡ a → length x ≡ k → putMid a k (p ++ (x ++ u)) z ≡ p ++ (z ++ u)
@@ -46,6 +47,12 @@ part3 xs q z1 z2 = take (q + q + q - (q + q)) (drop (q + q) (after2 xs q z1 z2))
 
 abbrev pub part4 : List ℤ → ℕ → List ℤ → List ℤ → List ℤ → List ℤ
 part4 xs q z1 z2 z3 = take (length (after3 xs q z1 z2 z3) - (q + q + q)) (drop (q + q + q) (after3 xs q z1 z2 z3))
+
+-- a part of length q, ready to be read as a set
+pub record Ready (k q : ℕ) (part : List ℤ) : Type 0 where
+  pub size : length part ≡ q
+  pub room : Room k part
+  pub set : IsSet part
 
 module _ (xs : List ℤ) (q : ℕ) (n : q * 3 ≤ length xs) where
   abbrev x2 : List ℤ
@@ -149,3 +156,26 @@ module _ (xs : List ℤ) (q : ℕ) (n : q * 3 ≤ length xs) where
             where
               run : {part x z : List ℤ} {i j : ℕ} → part ≡ x → length part ≡ q → SetRead p part bytes b i z j → walkSet Decoder p d x (tapeOf bytes b i) ≡ (z, tapeOf bytes b j)
               run f s R = rw f at (R .read d (s ∙ e) .is)
+
+-- ---- ready to be read
+module _ (k : ℕ) (xs : List ℤ) (q d : ℕ) (n : q * 3 ≤ length xs) (e : q ≡ 4 ^ suc d) (w : Room k xs) where
+  ready : {part x : List ℤ} → part ≡ x → length part ≡ q → Room k x → Ready k q part
+  ready f s v = record { size = s; room = rw f v; set = record { d = d; is = s ∙ e } }
+
+  w2 : Room k (drop q xs)
+  w2 = room-drop k q xs w
+
+  w3 : Room k (drop q (drop q xs))
+  w3 = room-drop k q (drop q xs) w2
+
+  pub ready1 : Ready k q (part1 xs q)
+  ready1 = ready (is1 xs q n) (size1 xs q n) (room-take k q xs w)
+
+  pub ready2 : (z1 : List ℤ) → length z1 ≡ length (part1 xs q) → Ready k q (part2 xs q z1)
+  ready2 z1 k1 = ready (is2 xs q n z1 k1) (size2 xs q n z1 k1) (room-take k q (drop q xs) w2)
+
+  pub ready3 : (z1 : List ℤ) (k1 : length z1 ≡ length (part1 xs q)) (z2 : List ℤ) → length z2 ≡ length (part2 xs q z1) → Ready k q (part3 xs q z1 z2)
+  ready3 z1 k1 z2 k2 = ready (is3 xs q n z1 k1 z2 k2) (size3 xs q n z1 k1 z2 k2) (room-take k q (drop q (drop q xs)) w3)
+
+  pub room4 : (z1 : List ℤ) (k1 : length z1 ≡ length (part1 xs q)) (z2 : List ℤ) (k2 : length z2 ≡ length (part2 xs q z1)) (z3 : List ℤ) → length z3 ≡ length (part3 xs q z1 z2) → Room k (part4 xs q z1 z2 z3)
+  room4 z1 k1 z2 k2 z3 k3 = rw (is4 xs q n z1 k1 z2 k2 z3 k3) (room-drop k q (drop q (drop q xs)) w3)

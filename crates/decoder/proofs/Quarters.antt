@@ -1,4 +1,4 @@
--- A set longer than four in its quarters: what each needs to be read, and what the walk makes of all.
+-- A set in its quarters, and what the walk makes of it.
 use mathlib.Core.Path.{_≡_, refl, sym, ap, _∙_, subst}
 use mathlib.Core.Bool.{Bool, true, false}
 use mathlib.Core.List.{List, [], _∷_, _++_}
@@ -9,11 +9,10 @@ use lib.IntN.{ℤ}
 use lib.ListN.{length, take, drop}
 use Rattle.paper.specs.Walk.{Decoder, walkSet, walkNumbers, testSet, _next_}
 use Rattle.walk.specs.Asks.{opened, behind}
-use Rattle.walk.specs.Room.{Room, room-take, room-drop}
 use Rattle.walk.specs.Together.{Decodes}
 use Rattle.bits.specs.Bits.{tapeOf}
 use Rattle.decoder.specs.Walked.{IsSet, Walked, SetRead}
-use Rattle.decoder.proofs.Parts.{after4, part1, part2, part3, part4, is1, is2, is3, is4, size1, size2, size3, len4, three-read}
+use Rattle.decoder.proofs.Parts.{after4, part1, part2, part3, part4, is4, len4, three-read}
 
 -- a set longer than four: its quarter's length
 pub record Quarters (xs : List ℤ) : Type 0 where
@@ -36,38 +35,14 @@ quarters xs S k = go (S .d) (S .is)
     go zero h = absurd (k h)
     go (suc d) h = quarters-of xs d h
 
--- what a quarter needs to be read
-pub record Ready (k t : ℕ) (part : List ℤ) : Type 0 where
-  pub less : length part < t
-  pub room : Room k part
-  pub set : IsSet part
+-- a quarter is shorter than the set
+pub shorter : {xs : List ℤ} {t m : ℕ} → Quarters xs → length xs ≡ t → m ≡ length xs / 4 → m < t
+shorter Q e s = omega (arith, s, e, Q .all, Q .some)
 
-module _ (k t : ℕ) (xs : List ℤ) (Q : Quarters xs) (e : length xs ≡ t) (w : Room k xs) where
-  abbrev q : ℕ
-  q = length xs / 4
-
-  ready : {part x : List ℤ} → part ≡ x → length part ≡ q → Room k x → Ready k t part
-  ready f s v = record { less = omega (arith, s, e, Q .all, Q .some); room = rw f v; set = record { d = Q .d; is = s ∙ Q .is } }
-
-  w2 : Room k (drop q xs)
-  w2 = room-drop k q xs w
-
-  w3 : Room k (drop q (drop q xs))
-  w3 = room-drop k q (drop q xs) w2
-
-  pub ready1 : Ready k t (part1 xs q)
-  ready1 = ready (is1 xs q (Q .three)) (size1 xs q (Q .three)) (room-take k q xs w)
-
-  pub ready2 : (z1 : List ℤ) → length z1 ≡ length (part1 xs q) → Ready k t (part2 xs q z1)
-  ready2 z1 k1 = ready (is2 xs q (Q .three) z1 k1) (size2 xs q (Q .three) z1 k1) (room-take k q (drop q xs) w2)
-
-  pub ready3 : (z1 : List ℤ) (k1 : length z1 ≡ length (part1 xs q)) (z2 : List ℤ) → length z2 ≡ length (part2 xs q z1) → Ready k t (part3 xs q z1 z2)
-  ready3 z1 k1 z2 k2 = ready (is3 xs q (Q .three) z1 k1 z2 k2) (size3 xs q (Q .three) z1 k1 z2 k2) (room-take k q (drop q (drop q xs)) w3)
-
-  pub ready4 : (z1 : List ℤ) (k1 : length z1 ≡ length (part1 xs q)) (z2 : List ℤ) (k2 : length z2 ≡ length (part2 xs q z1)) (z3 : List ℤ) → length z3 ≡ length (part3 xs q z1 z2) → Ready k t (part4 xs q z1 z2 z3)
-  ready4 z1 k1 z2 k2 z3 k3 =
-      let f = is4 xs q (Q .three) z1 k1 z2 k2 z3 k3 in
-      ready f (ap length f ∙ omega (arith, len4 xs q (Q .three), Q .all)) (room-drop k q (drop q (drop q xs)) w3)
+-- the last quarter, behind three
+pub size4 : (xs : List ℤ) (Q : Quarters xs) (z1 : List ℤ) (k1 : length z1 ≡ length (part1 xs (length xs / 4))) (z2 : List ℤ) (k2 : length z2 ≡ length (part2 xs (length xs / 4) z1)) (z3 : List ℤ) → length z3 ≡ length (part3 xs (length xs / 4) z1 z2)
+    → length (part4 xs (length xs / 4) z1 z2 z3) ≡ length xs / 4
+size4 xs Q z1 k1 z2 k2 z3 k3 = ap length (is4 xs (length xs / 4) (Q .three) z1 k1 z2 k2 z3 k3) ∙ omega (arith, len4 xs (length xs / 4) (Q .three), Q .all)
 
 -- ---- the walk
 -- what a set's test opens
@@ -113,5 +88,5 @@ module _ (p : ℕ) (xs : List ℤ) {bytes : List ℕ} {b at : ℕ} {o : Bool} {a
       go (suc d) h =
           let g : q ≡ 4 ^ suc d = quarters-of xs d h .is in
           let f = is4 xs q (Q .three) z1 k1 z2 k2 z3 k3 in
-          let last : Walked (walkSet Decoder p d (behind q xs)) bytes b r3 z4 r4 = rw f at (R4 .read d (ap length f ∙ (let z : length (behind q xs) ≡ q = omega (arith, len4 xs q (Q .three), Q .all) in z) ∙ g)) in
+          let last : Walked (walkSet Decoder p d (behind q xs)) bytes b r3 z4 r4 = rw f at (R4 .read d (size4 xs Q z1 k1 z2 k2 z3 k3 ∙ g)) in
           three-read xs q (Q .three) z1 k1 z2 k2 z3 k3 z4 p d (walkSet Decoder p d (behind (4 ^ suc d) xs)) bytes b a r1 r2 r3 r4 g R1 R2 R3 (subst (λ k. Walked (walkSet Decoder p d (behind k xs)) bytes b r3 z4 r4) g last)

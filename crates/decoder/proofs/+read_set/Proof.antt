@@ -1,13 +1,13 @@
 -- `read_set` meets its contract. The measure is the length, which falls to a quarter at each call of itself.
-use Prim.Native.Nat.{suc, _/_}
-use Prim.Native.Nat.{ℕ, _<_}
+use mathlib.Core.Path.{_∙_}
+use Prim.Native.Nat.{ℕ, suc, _/_, _<_}
 use lib.ListN.{length}
 use borrow.Author.Tests.{not-true, not-false}
 use borrow.Author.Needs.{needs}
 use borrow.Fn.Kinds.{In}
 use borrow.Fn.PlainCycle.{Measures, is, falls, and}
-use Rattle.decoder.proofs.Quarters.{quarters, ready1, ready2, ready3, ready4, closed-read, four-set, quarters-set}
-use Rattle.decoder.proofs.Parts.{whole4}
+use Rattle.decoder.proofs.Quarters.{quarters, shorter, size4, closed-read, four-set, quarters-set}
+use Rattle.decoder.proofs.Parts.{ready1, ready2, ready3, room4, whole4}
 use Rattle.decoder.proofs.read_set.Reads as read-set
 use Rattle.decoder.proofs.read_set.Kinds as read-set-kinds
 use Rattle.decoder.proofs.+read_set.Lts-read_set as read-set-lts
@@ -66,8 +66,8 @@ read-set-read-set-requires t c κs =
     let S = c .before .before .before .before .before .before .before in
     let xs = S .args .numbers .now in
     let Q = quarters xs (S .pre .1 .1 .1 .1) (c .before .if2 .left) in
-    let P = ready1 (suc (S .args .p)) t xs Q (S .pre .0) (S .pre .1 .0) in
-    (P .less, (P .room, (S .pre .1 .1 .0, (S .pre .1 .1 .1 .0, P .set))))
+    let P = ready1 (suc (S .args .p)) xs (length xs / 4) (Q .d) (Q .three) (Q .is) (S .pre .1 .0) in
+    (shorter Q (S .pre .0) (P .size), (P .room, (S .pre .1 .1 .0, (S .pre .1 .1 .1 .0, P .set))))
 
 read-set-mul-read-set : (t : ℕ) → read-set-lts.Need-mul-read-set (read-test-reads.Asked, read-test-reads.Learnt, read-four-reads.Asked, read-four-reads.Learnt, read-set-below t, read-set.Post) (read-set-at t) read-set.Post
 read-set-mul-read-set t c = search needs
@@ -88,8 +88,8 @@ read-set-read-set-requires-2 t c κs =
     let Q = quarters xs (S .pre .1 .1 .1 .1) (c .before .before .before .before .if2 .left) in
     let z1 = c .before .before .read-set .last .0 in
     let k1 = c .before .before .read-set .kept .0 in
-    let P = ready2 (suc (S .args .p)) t xs Q (S .pre .0) (S .pre .1 .0) z1 k1 in
-    (P .less, (P .room, (S .pre .1 .1 .0, (S .pre .1 .1 .1 .0, P .set))))
+    let P = ready2 (suc (S .args .p)) xs (length xs / 4) (Q .d) (Q .three) (Q .is) (S .pre .1 .0) z1 k1 in
+    (shorter Q (S .pre .0) (P .size), (P .room, (S .pre .1 .1 .0, (S .pre .1 .1 .1 .0, P .set))))
 
 read-set-mul-read-set-2 : (t : ℕ) → read-set-lts.Need-mul-read-set-2 (read-test-reads.Asked, read-test-reads.Learnt, read-four-reads.Asked, read-four-reads.Learnt, read-set-below t, read-set.Post) (read-set-at t) read-set.Post
 read-set-mul-read-set-2 t c = search needs
@@ -112,8 +112,8 @@ read-set-read-set-requires-3 t c κs =
     let k1 = c .before .before .before .before .before .read-set .kept .0 in
     let z2 = c .before .before .read-set2 .last .0 in
     let k2 = c .before .before .read-set2 .kept .0 in
-    let P = ready3 (suc (S .args .p)) t xs Q (S .pre .0) (S .pre .1 .0) z1 k1 z2 k2 in
-    (P .less, (P .room, (S .pre .1 .1 .0, (S .pre .1 .1 .1 .0, P .set))))
+    let P = ready3 (suc (S .args .p)) xs (length xs / 4) (Q .d) (Q .three) (Q .is) (S .pre .1 .0) z1 k1 z2 k2 in
+    (shorter Q (S .pre .0) (P .size), (P .room, (S .pre .1 .1 .0, (S .pre .1 .1 .1 .0, P .set))))
 
 read-set-mul-read-set-3 : (t : ℕ) → read-set-lts.Need-mul-read-set-3 (read-test-reads.Asked, read-test-reads.Learnt, read-four-reads.Asked, read-four-reads.Learnt, read-set-below t, read-set.Post) (read-set-at t) read-set.Post
 read-set-mul-read-set-3 t c = search needs
@@ -138,8 +138,8 @@ read-set-read-set-requires-4 t c κs =
     let k2 = c .before .before .before .before .before .read-set2 .kept .0 in
     let z3 = c .before .before .read-set3 .last .0 in
     let k3 = c .before .before .read-set3 .kept .0 in
-    let P = ready4 (suc (S .args .p)) t xs Q (S .pre .0) (S .pre .1 .0) z1 k1 z2 k2 z3 k3 in
-    (P .less, (P .room, (S .pre .1 .1 .0, (S .pre .1 .1 .1 .0, P .set))))
+    let s = size4 xs Q z1 k1 z2 k2 z3 k3 in
+    (shorter Q (S .pre .0) s, (room4 (suc (S .args .p)) xs (length xs / 4) (Q .d) (Q .three) (Q .is) (S .pre .1 .0) z1 k1 z2 k2 z3 k3, (S .pre .1 .1 .0, (S .pre .1 .1 .1 .0, record { d = Q .d; is = s ∙ Q .is }))))
 
 read-set-same-length-3 : (t : ℕ) → read-set-lts.Need-same-length-3 (read-test-reads.Asked, read-test-reads.Learnt, read-four-reads.Asked, read-four-reads.Learnt, read-set-below t, read-set.Post) (read-set-at t) read-set.Post
 read-set-same-length-3 t c =
