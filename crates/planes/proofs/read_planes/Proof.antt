@@ -1,4 +1,4 @@
--- `read_planes` meets its contract.
+-- `read_planes` meets its contract. The measure is p, the planes to come.
 use borrow.Author.Needs.{needs}
 use Rattle.planes.proofs.Planes.{Before, before-first, before-next, plane-room, plane-low, stopped, none-left}
 use Rattle.planes.proofs.read_planes.Statement.{statement}
