@@ -1,14 +1,14 @@
 -- A line forward and back: every place, the undoing, and the sizes.
 use mathlib.Core.Path.{_≡_, refl, sym, ap, _∙_}
-use mathlib.Core.List.{List, [], _∷_, _++_}
-use Prim.Native.Nat.{ℕ, zero, suc, _+_, _*_, _-_, _/_, _<_, _≤_, min}
+use mathlib.Core.List.{List, _++_}
+use Prim.Native.Nat.{ℕ, zero, suc, _+_, _*_, _-_, _/_, _<_, min}
 use native.Mathlib.Omega.{arith}
 use native.Mathlib.Nat.{not-suc-le-zero, le-of-suc-le-suc}
-use lib.ListN.{length, getD, length-append, List·getD-append}
+use lib.ListN.{length, length-append, List·getD-append}
 use lib.Seq.{ext-getD, getD-append-add}
 use lib.IntN.{ℤ, pos}
 use Rattle.paper.specs.Lists.{made, at}
-use Rattle.paper.specs.Line.{highOf, lowOf, oddOf, evenOf, highAt, lowAt, lineForward, evenAt, oddAt, woven, lineBack}
+use Rattle.paper.specs.Line.{highAt, lowAt, lineForward, evenAt, oddAt, woven, lineBack}
 use Rattle.integers.specs.Order.{Within}
 use Rattle.lift.proofs.Steps.{odd-high, even-low, high-within, low-within, even-within, odd-within, grow}
 use Rattle.line.specs.Each.{Each}

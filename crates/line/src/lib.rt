@@ -1,6 +1,6 @@
 // The 5/3 rule on one line, both ways.
 ghost use mathlib.Core.Path.{_≡_};
-ghost use Prim.Native.Nat.{ℕ, _+_, _*_, _/_, _-_, _^_, _<_, _≤_, min};
+ghost use Prim.Native.Nat.{_+_, _*_, _/_, _-_, _<_, min};
 ghost use lib.ListN.{length};
 ghost use Rattle.paper.specs.Line.{highAt, lineForward, evenAt, lineBack};
 ghost use Rattle.line.specs.Each.{Each, lineLimit};

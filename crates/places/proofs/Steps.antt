@@ -1,5 +1,5 @@
 -- One turn of the loops over the bits of a place: the digits that are done, and the weight of those that are left.
-use Prim.Native.Nat.{ℕ, suc, _+_, _*_, _-_, _/_, _%_, _^_, _<_, _≤_}
+use Prim.Native.Nat.{ℕ, suc, _+_, _*_, _-_, _%_, _^_, _<_, _≤_}
 use mathlib.Core.Path.{_≡_, ap, _∙_, sym}
 use native.Mathlib.Nat.{pow-le-pow-right, pow-suc, mul-le-mul-right, mul-add, mul-comm, mul-assoc, add-assoc, mul-zero, add-zero, sub-zero, one-mul, zero-add}
 use native.Mathlib.Numerals.{add-one}
@@ -7,7 +7,6 @@ use native.Mathlib.Omega.{arith}
 use lib.Dec.{lit<}
 use lib.Pow.{shl-exact}
 use Rattle.paper.specs.Sizes.{mostSize}
-use Rattle.paper.specs.Places.{interleaved, rowOf, columnOf}
 
 pub one-shl : (k : ℕ) → k ≤ mostSize → (1 * 2 ^ k) % 2 ^ 64 ≡ 2 ^ k
 one-shl k h = shl-exact 1 k 64 (lit< tt) (omega arith) ∙ one-mul (2 ^ k)

@@ -1,6 +1,6 @@
 // Raster places and Z places are different kinds of number. The two conversions here are the only passage between them.
 ghost use mathlib.Core.Path.{_≡_};
-ghost use Prim.Native.Nat.{ℕ, _^_, _≤_};
+ghost use Prim.Native.Nat.{_^_, _≤_};
 ghost use Rattle.paper.specs.Sizes.{mostSize};
 ghost use Rattle.paper.specs.Places.{zOf, rasterOf};
 

@@ -2,14 +2,13 @@
 use mathlib.Core.Path.{_≡_, sym, ap, _∙_}
 use mathlib.Core.Bool.{Bool, true, false}
 use mathlib.Core.List.{List, _++_}
-use Prim.Native.Nat.{ℕ, zero, suc, _+_, _*_, _-_, _/_, _^_, _<_, _≤_}
+use Prim.Native.Nat.{ℕ, zero, suc, _+_, _*_, _-_, _^_, _<_, _≤_}
 use native.Mathlib.Omega.{arith}
 use native.Mathlib.Nat.{pow-suc}
 use lib.ListN.{length, take, drop, length-append, length-drop, List·getD-append}
 use lib.Seq.{ext-getD, getD-append-add, getD-drop}
 use lib.IntN.{ℤ, pos}
-use Rattle.paper.specs.Lists.{made, at}
-use Rattle.paper.specs.Places.{interleaved, rowOf, columnOf}
+use Rattle.paper.specs.Lists.{at}
 use Rattle.paper.specs.Square.{placeOf, lineOf, spotOf, line, along, onFirst}
 use Rattle.places.proofs.Interleaving.{interleaved-below, interleaved-back, row-below, column-below, row-back, column-back}
 use Rattle.line.proofs.Made.{length-made, getD-made}

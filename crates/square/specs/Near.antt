@@ -1,6 +1,6 @@
 -- The error law of the square: numbers that differ by at most E come back, after L levels, differing by at most (7 L + 1) E.
 -- A level adds 7 E to what its upper left quarter brings: the line law for the columns, then for the rows.
-use mathlib.Core.Path.{_≡_, ap, _∙_}
+use mathlib.Core.Path.{_≡_, _∙_}
 use mathlib.Core.Bool.{Bool, true, false}
 use mathlib.Core.List.{List}
 use Prim.Native.Nat.{ℕ, zero, suc, _+_, _*_, _-_, _/_, _^_, _<_, _≤_}

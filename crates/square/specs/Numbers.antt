@@ -1,16 +1,15 @@
 -- A picture's wavelet numbers are within the limit, and wavelet numbers within the limit give greys of 32 bits.
-use mathlib.Core.Path.{_≡_, refl, sym, ap, _∙_}
-use mathlib.Core.Bool.{Bool, true, false, _&&_}
+use mathlib.Core.Path.{_≡_, refl}
+use mathlib.Core.Bool.{true}
 use mathlib.Core.List.{List, [], _∷_}
-use Prim.Native.Nat.{ℕ, zero, suc, _+_, _*_, _-_, _^_, _<_, _≤_}
+use Prim.Native.Nat.{ℕ, zero, suc, _*_, _^_, _<_, _≤_}
 use native.Mathlib.Omega.{arith}
-use native.Mathlib.Nat.{mul-le-mul-left, pow-le-pow-right}
+use native.Mathlib.Nat.{pow-le-pow-right}
 use lib.Dec.{leb, lit<}
 use lib.ListN.{length, getD}
 use lib.IntN.{ℤ, pos, natAbs, _+ℤ_, _-ℤ_}
 use borrow.Author.Tests.{leb-true, le-leb}
 use Rattle.paper.specs.Sizes.{mostLevels, numberLimit, numbersIn}
-use Rattle.paper.specs.Lists.{made, at}
 use Rattle.paper.specs.Places.{rasterOf}
 use Rattle.paper.specs.Square.{levelsBack, lowered, raised, numbersOf, greysOf}
 use Rattle.integers.specs.Difference.{split, sub-⊖}
@@ -19,9 +18,8 @@ use Rattle.sizes.proofs.Ranges.{both-first, both-second}
 use Rattle.lift.proofs.Steps.{grow, zero-within}
 use Rattle.line.specs.Each.{Each}
 use Rattle.line.proofs.Made.{length-made, each-made}
-use Rattle.square.specs.Undone.{length-levels, length-levels-back}
+use Rattle.square.specs.Undone.{length-levels}
 use Rattle.square.specs.Sizes.{levels-each}
-use Rattle.square.specs.Near.{grown}
 use Rattle.square.specs.Range.{levels-range, grown-most}
 
 -- ---- no number beyond the limit

@@ -7,7 +7,7 @@ use native.Mathlib.Omega.{arith}
 use lib.ListN.{length, getD}
 use lib.Seq.{ext-getD}
 use lib.IntN.{ℤ, pos, _+ℤ_, _-ℤ_, -ℤ-+ℤ-cancel}
-use Rattle.paper.specs.Lists.{made, at}
+use Rattle.paper.specs.Lists.{at}
 use Rattle.paper.specs.Places.{zOf, rasterOf}
 use Rattle.paper.specs.Square.{levelsBack, lowered, raised, grey, pictured, numbersOf, greysOf}
 use Rattle.integers.specs.Difference.{_⊖_, ⊖-cases, split}

@@ -11,7 +11,7 @@ use lib.Seq.{length-take-le, getD-take}
 use lib.IntN.{ℤ, pos}
 use Rattle.paper.specs.Lists.{at}
 use Rattle.paper.specs.Line.{lineForward}
-use Rattle.paper.specs.Square.{placeOf, line, along, levelForward, onFirst, levelsForward}
+use Rattle.paper.specs.Square.{line, along, levelForward, onFirst, levelsForward}
 use Rattle.integers.specs.Order.{Within}
 use Rattle.lift.proofs.Steps.{grow, zero-within}
 use Rattle.line.specs.Each.{Each}
@@ -56,7 +56,7 @@ pub level-each : {M : ℕ} (j : ℕ) (xs : List ℤ) → 0 < j → Each M xs →
 unfolding levelForward
 level-each j xs h E z = grow (pass-each j true _ h (pass-each j false xs h E) z) (omega arith)
 
-le-mul-pow : (a L : ℕ) → a ≤ a * 4 ^ L
+pub le-mul-pow : (a L : ℕ) → a ≤ a * 4 ^ L
 le-mul-pow a zero = omega arith
 le-mul-pow a (suc L) = omega (arith, le-mul-pow a L, mul-assoc a (4 ^ L) 4 ∙ ap (λ (x : ℕ). a * x) (sym (pow-suc 4 L)))
 

@@ -100,7 +100,7 @@ pub tail-of : {x y : Bool} {l m : List Bool} → x ∷ l ≡ y ∷ m → l ≡ m
 tail-of h = cc
 
 -- ---- one part, then the next
-decode-next : (f g : Decodes (List ℤ)) {t t′ t″ : Tape} {a b : List ℤ} → f t ≡ (a, t′) → g t′ ≡ (b, t″) → _next_ Decoder f g t ≡ (a ++ b, t″)
+pub decode-next : (f g : Decodes (List ℤ)) {t t′ t″ : Tape} {a b : List ℤ} → f t ≡ (a, t′) → g t′ ≡ (b, t″) → _next_ Decoder f g t ≡ (a ++ b, t″)
 unfolding _next_
 decode-next f g {a = a} h k = ap (λ q. let s = g (q .1) in (q .0 ++ s .0, s .1)) h ∙ ap (λ s. (a ++ s .0, s .1)) k
 

@@ -1,7 +1,6 @@
 -- `line::high_at` meets its contract.
 use mathlib.Core.Path.{_≡_, _∙_}
 use Prim.Native.Nat.{_+_, _*_, _-_, min}
-use native.Mathlib.Omega.{arith}
 use mir.Facts.{toZ-ofZ}
 use Rattle.integers.specs.Machine.{read, pass}
 use Rattle.paper.specs.Line.{highAt}
