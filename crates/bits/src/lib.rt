@@ -41,7 +41,7 @@ pub fn read_bit(src: &[u8], b: usize, at: usize) -> Answer
 }
 
 // A byte's first k bits, then the bit b, then zeros.
-fn with_bit(v: u8, k: usize, b: bool) -> u8
+pub fn with_bit(v: u8, k: usize, b: bool) -> u8
     requires { ⌜ k < 8 ⌝ }
     ensures { λ r. ⌜ r ≡ withBit k b v ⌝ }
 {

@@ -22,7 +22,7 @@ use Rattle.records.specs.Written.{Writable}
 use Rattle.records.specs.ReadBack.{readBack, length-record, read-cut}
 
 -- the most bits of a coding are fewer than numbered blocks hold
-most-bits : (k n : ℕ) → sizeIn k ≡ true → planesIn n ≡ true → mostBits k n ≤ 3936 * 65536
+pub most-bits : (k n : ℕ) → sizeIn k ≡ true → planesIn n ≡ true → mostBits k n ≤ 3936 * 65536
 unfolding mostBits
 most-bits k n size planes =
     let area : 4 ^ k ≤ 65536 = area-most k size in

@@ -2,10 +2,10 @@
 use mathlib.Core.Path.{_≡_, refl, sym, ap, _∙_}
 use mathlib.Core.Bool.{Bool, true, false}
 use mathlib.Core.List.{List, [], _∷_, _++_}
-use Prim.Native.Nat.{ℕ, zero, suc, _+_, _*_, _-_, _≤_}
+use Prim.Native.Nat.{ℕ, zero, suc, _+_, _*_, _-_, _<_, _≤_}
 use native.Mathlib.Nat.{zero-add, mul-suc, mul-zero, mul-assoc}
 use native.Mathlib.Omega.{arith}
-use lib.ListN.{length, take, drop, replicate, length-append, length-replicate}
+use lib.ListN.{length, take, drop, getD, replicate, length-append, length-replicate}
 use lib.Seq.{drop-drop, drop-nil, take-nil, take-append-seam, drop-append-seam}
 use Rattle.paper.specs.Lists.{joined}
 use Rattle.bits.proofs.Worth.{byteOf-nil}
@@ -19,6 +19,13 @@ unfolding packed
 take-packed zero n l h = refl
 take-packed (suc m) zero l h = absurd (omega arith)
 take-packed (suc m) (suc n) l h = ap (λ s. byteOf 8 l ∷ s) (take-packed m n (drop 8 l) (omega arith))
+
+-- one byte
+pub packed-at : (n i : ℕ) (l : List Bool) → i < n → getD (packed n l) i 0 ≡ byteOf 8 (drop (8 * i) l)
+unfolding packed
+packed-at zero i l h = absurd (omega arith)
+packed-at (suc n) zero l h = refl
+packed-at (suc n) (suc i) l h = let e : 8 + 8 * i ≡ 8 * suc i = omega arith in packed-at n i (drop 8 l) (omega arith) ∙ ap (byteOf 8) (drop-drop (8 * i) 8 l ∙ ap (λ a. drop a l) e)
 
 -- some bytes, then some more
 pub packed-more : (m n : ℕ) (l : List Bool) → packed (m + n) l ≡ packed m l ++ packed n (drop (8 * m) l)

@@ -15,7 +15,7 @@ use Rattle.paper.specs.Block.{byteAt, edition, payloadStart, countOf, payloadOf
 use Rattle.paper.specs.Record.{blocksFor, blockOf, recordOf, wholeBlocks, blockAt, inTurn, turnRefusal, isFull, runFrom, runOf, bitsKept, payloadKept}
 use Rattle.paper.specs.Sizes.{judged}
 use Rattle.paper.specs.Jobs.{Read, readingRefusal, readRun, readingJob}
-use Rattle.block.proofs.Blocks.{same-bytes-refl}
+use Rattle.block.proofs.Blocks.{label-length, same-bytes-refl}
 use Rattle.records.specs.Parts.{length-joined, part-joined, joined-same}
 use Rattle.records.specs.Kept.{all-kept}
 use Rattle.records.specs.Packing.{take-packed, drop-take, packed-take, packed-joined, bits-back}
@@ -64,12 +64,12 @@ module _ (k L n : ℕ) (label : List ℕ) (l : List Bool) (w : Writable k L n la
   -- ---- the record's bytes
   pub length-record : length (recordOf k L n label l) ≡ 512 * blocksFor (length l)
   unfolding recordOf
-  length-record = length-joined 512 (blockOf k L n label l) (length-block k L n label l w) (blocksFor (length l))
+  length-record = length-joined 512 (blockOf k L n label l) (blocksFor (length l)) (λ i h. length-block k L n label l (label-length label (w .labelled)) i)
 
   -- block i of a written record, whatever stands behind the record
   pub block-of-record : (tail : List ℕ) (i : ℕ) → i < blocksFor (length l) → blockAt (recordOf k L n label l ++ tail) i ≡ blockOf k L n label l i
   unfolding recordOf
-  block-of-record tail i h = part-joined 512 (blockOf k L n label l) (length-block k L n label l w) (blocksFor (length l)) tail i h
+  block-of-record tail i h = part-joined 512 (blockOf k L n label l) (blocksFor (length l)) (λ i h. length-block k L n label l (label-length label (w .labelled)) i) tail i h
 
   bits-are : (s : List ℕ) (j : ℕ) → 0 < j → j ≤ blocksFor (length l) → ((i : ℕ) → i < j → blockAt s i ≡ blockOf k L n label l i) → bitsKept s j ≡ bitsIn l j
   unfolding bitsKept

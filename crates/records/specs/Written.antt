@@ -24,13 +24,13 @@ pub record Writable (k L n : ℕ) (label : List ℕ) (l : List Bool) : Type 0 wh
 pub length-of-block : (l : List Bool) (i : ℕ) → length (bitsOfBlock l i) ≡ min 3936 (length l - 3936 * i)
 length-of-block l i = length-take 3936 (drop (3936 * i) l) ∙ ap (min 3936) (length-drop (3936 * i) l)
 
+pub length-block : (k L n : ℕ) (label : List ℕ) (l : List Bool) → length label ≡ 8 → (i : ℕ) → length (blockOf k L n label l i) ≡ 512
+unfolding blockOf
+length-block k L n label l eight i = made-length k L n label i (length (bitsOfBlock l i)) (packed 492 (bitsOfBlock l i)) eight (packed-length 492 (bitsOfBlock l i))
+
 module _ (k L n : ℕ) (label : List ℕ) (l : List Bool) (w : Writable k L n label l) (i : ℕ) where
   few-bits : length (bitsOfBlock l i) ≤ 3936
   few-bits = omega (arith, length-of-block l i)
-
-  pub length-block : length (blockOf k L n label l i) ≡ 512
-  unfolding blockOf
-  length-block = made-length k L n label i (length (bitsOfBlock l i)) (packed 492 (bitsOfBlock l i)) (label-length label (w .labelled)) (packed-length 492 (bitsOfBlock l i))
 
   pub front-of-block : take 12 (blockOf k L n label l i) ≡ edition ∷ k ∷ L ∷ n ∷ label
   unfolding blockOf
