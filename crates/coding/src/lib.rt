@@ -9,6 +9,7 @@ ghost use Rattle.paper.specs.Jobs.{codingRefusal, codingJob};
 ghost use Rattle.bits.specs.Bits.{Sink, wrote};
 ghost use Rattle.coding.specs.Planes.{planesBits};
 
+#[repr(C)]
 pub struct Written {
     pub refusal: u32,
     pub bits: usize,

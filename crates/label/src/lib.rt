@@ -8,9 +8,11 @@
 // the inputs, so it leaves nothing open (proofs/Settled.antt). The three demands are proofs/Demand1.antt, Demand2.antt
 // and Demand3.antt; docs/PROMISES.md follows them sentence by sentence.
 ghost use mathlib.Core.Path.{_≡_};
-ghost use Rattle.paper.specs.Jobs.{forwardJob, codingJob, decodingJob, inverseJob, checkJob};
+ghost use Rattle.paper.specs.Jobs.{forwardJob, codingJob, decodingJob, inverseJob, writingJob, readingJob, checkJob};
 use coding::Written;
 use decoding::Settled;
+use record::Blocks;
+use record::Kept;
 use transform::Planes;
 
 // Fills the wavelet numbers of a picture of side 2^k, in Z order, and gives n, the planes that they need.
@@ -43,6 +45,30 @@ pub fn inverse(k: u32, levels: u32, numbers: &[i32], picture: &mut [u8], room: &
     ensures { λ r. ⌜ inverseJob k levels (now (numbers .entry)) (now (picture .entry)) (now (room .entry)) ≡ record { refusal = r; picture = now (picture .exit); room = now (room .exit) } ⌝ }
 {
     transform::inverse(k, levels, numbers, picture, room)
+}
+
+// Writes the record of the first b bits at the front of the room, and gives its count of blocks; later bytes are
+// untouched. Refusals 1, 2, 5, 6, 7.
+pub fn write(
+    k: u32,
+    levels: u32,
+    n: u32,
+    label: &[u8],
+    bytes: &[u8],
+    b: usize,
+    room: &mut [u8],
+) -> Blocks
+    ensures { λ r. ⌜ writingJob k levels n (now (label .entry)) (now (bytes .entry)) b (now (room .entry)) ≡ record { refusal = r .refusal; blocks = r .blocks; room = now (room .exit) } ⌝ }
+{
+    record::write(k, levels, n, label, bytes, b, room)
+}
+
+// Keeps the longest run of good blocks from the front: gives k, L, n, the blocks kept, their bits and the number that
+// ended the run, and lays their payload at the front of the room; later bytes are untouched. Refusals 6, 7, 8, 9, 10.
+pub fn read(blocks: &[u8], label: &[u8], room: &mut [u8]) -> Kept
+    ensures { λ r. ⌜ readingJob (now (blocks .entry)) (now (label .entry)) (now (room .entry)) ≡ record { refusal = r .refusal; k = r .k; L = r .levels; n = r .n; blocks = r .blocks; bits = r .bits; ended = r .ended; room = now (room .exit) } ⌝ }
+{
+    record::read(blocks, label, room)
 }
 
 // Judges a single block: 0, or 6, 8 or 9.

@@ -62,6 +62,7 @@ fn write_refusal(
     if fields::is_label(label) { 0 } else { 7 }
 }
 
+#[repr(C)]
 pub struct Blocks {
     pub refusal: u32,
     pub blocks: usize,
@@ -116,6 +117,7 @@ fn read_refusal(blocks: usize, label: &[u8], room: usize) -> u32
     if fields::is_label(label) { 0 } else { 7 }
 }
 
+#[repr(C)]
 pub struct Kept {
     pub refusal: u32,
     pub k: u32,
