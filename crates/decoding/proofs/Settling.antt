@@ -1,9 +1,8 @@
 -- The numbers cleared, the bits capped, and what the planes make of them: the decoding of the paper.
-use mathlib.Core.Path.{_≡_, refl, sym, ap, _∙_, subst}
+use mathlib.Core.Path.{_≡_, refl, sym, ap, _∙_}
 use mathlib.Core.Bool.{Bool, true, false}
 use mathlib.Core.List.{List, [], _∷_, _++_}
-use Prim.Native.Nat.{ℕ, zero, suc, _+_, _*_, _-_, _%_, _^_, _<_, _≤_, min}
-use native.Mathlib.Nat.{mod-eq-of-lt, one-mul}
+use Prim.Native.Nat.{ℕ, suc, _+_, _*_, _-_, _%_, _^_, _<_, _≤_, min}
 use native.Mathlib.Numerals.{add-one}
 use native.Mathlib.Omega.{arith}
 use lib.Dec.{leb, ltb}
@@ -14,13 +13,13 @@ use lib.ListN as ListN
 use lib.Seq.{take-all, take-take, take-suc-set}
 use Rattle.paper.specs.Sizes.{mostSize, mostPlanes}
 use Rattle.paper.specs.Bits.{bits}
-use Rattle.paper.specs.Walk.{Decoder, Tape, walkPlanes, depth, decodeOf, Settled}
+use Rattle.paper.specs.Walk.{Decoder, walkPlanes, depth, decodeOf, Settled}
 use Rattle.sizes.proofs.Counts.{shifted}
 use Rattle.walk.specs.Read.{readLimit, read-limit}
 use Rattle.walk.specs.Room.{Room, room-zeros}
 use Rattle.bits.specs.Bits.{tapeOf}
 use Rattle.bits.proofs.OneBit.{bits-length}
-use Rattle.decoder.specs.Walked.{Source, Walked}
+use Rattle.decoder.specs.Walked.{Source}
 use Rattle.planes.specs.Levels.{IsSquare, PlanesRead}
 
 -- ---- clearing
