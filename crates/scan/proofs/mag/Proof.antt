@@ -1,10 +1,11 @@
+-- A number below 0 is turned, another is its own magnitude.
 use mathlib.Core.Bool.{true, false}
 use mathlib.Core.Path.{ap}
 use lib.IntN.{natAbs}
 use borrow.Author.Needs.{needs}
 use Rattle.scan.proofs.Magnitude.{size-is, plain-fits, plain-cast, plain-read}
-use Rattle.scan.proofs.mag.Statement.{statement}
 use Rattle.scan.proofs.mag.Tie as tie
+use Rattle.scan.proofs.mag.Statement.{statement}
 
 sub-result : tie.Need-sub-result
 sub-result c = let h = c .before .pre in plain-fits _ _ (h .size) (size-is (c .before .args .x) true h (c .if1 .taken))

@@ -11,8 +11,8 @@ use Rattle.paper.specs.Lists.{at}
 use Rattle.integers.specs.Machine.{read, pass}
 use Rattle.scan.proofs.Numbers.{number-in}
 use Rattle.scan.proofs.Reached.{power-lt, Passed, none-passed, pass-yes, pass-no, all-passed, found, seen-is}
-use Rattle.scan.proofs.scan.Statement.{statement}
 use Rattle.scan.proofs.scan.Tie as tie
+use Rattle.scan.proofs.scan.Statement.{statement}
 
 abbrev Inv-loop : tie.InvT-loop
 Inv-loop xs p t any₀ i₀ any i = (i ≤ length xs) × Passed (2 * t) xs false i × Passed t xs any i

@@ -1,7 +1,8 @@
+-- The shift is a power of 2 that fits.
 use borrow.Author.Needs.{needs}
 use Rattle.scan.proofs.Reached.{shifted}
-use Rattle.scan.proofs.threshold.Statement.{statement}
 use Rattle.scan.proofs.threshold.Tie as tie
+use Rattle.scan.proofs.threshold.Statement.{statement}
 
 shl-result : tie.Need-shl-result
 shl-result c = search needs
