@@ -1,10 +1,10 @@
 -- One bit, one test and one number, as the walk has them.
-use mathlib.Core.Path.{_≡_, refl, sym, ap, _∙_, subst}
+use mathlib.Core.Path.{_≡_, refl, sym, ap, _∙_}
 use mathlib.Core.Logic.{inl, inr}
 use mathlib.Core.Bool.{Bool, true, false}
-use mathlib.Core.Option.{Option, none, some}
+use mathlib.Core.Option.{none, some}
 use mathlib.Core.List.{List, [], _∷_}
-use Prim.Native.Nat.{ℕ, zero, suc, _+_, _*_, _^_, _<_, _≤_}
+use Prim.Native.Nat.{ℕ, suc, _+_, _*_, _^_, _<_, _≤_}
 use native.Mathlib.Nat.{pow-succ', add-zero}
 use native.Mathlib.Omega.{arith}
 use lib.Dec.{ltb, leb}
@@ -13,7 +13,7 @@ use types.Run.{OneOf}
 use denote.Enum.Declared.{tagOf}
 use borrow.Author.Tests.{lt-ltb, le-ltb, ltb-true, le-leb, lt-leb, leb-true, leb-false}
 use Rattle.paper.specs.Lists.{pick}
-use Rattle.paper.specs.Walk.{negative, signed, reaches, isOne, Decoder, Tape, testSet, walkNumber, refined, begun}
+use Rattle.paper.specs.Walk.{negative, signed, reaches, isOne, Decoder, testSet, walkNumber, refined, begun}
 use Rattle.walk.specs.Cleared.{signed-self}
 use Rattle.walk.specs.Asks.{test-known, test-asks, number-known, number-asks, afterBit}
 use Rattle.bits.specs.Bits.{tapeOf, heard, ReadBit}

@@ -1,10 +1,10 @@
 -- Four numbers, read and stored.
 use mathlib.Core.Path.{_≡_, refl, sym, ap, _∙_, subst}
-use mathlib.Core.List.{List, [], _∷_, _++_}
+use mathlib.Core.List.{List, [], _∷_}
 use Prim.Native.Nat.{ℕ, suc, _+_, _^_, _<_, _≤_}
 use native.Mathlib.Omega.{arith}
 use lib.Pow.{pow-pos}
-use lib.IntN.{ℤ, pos, natAbs}
+use lib.IntN.{ℤ, natAbs}
 use lib.ListN.{length}
 use lib.ListN as ListN
 use Rattle.paper.specs.Sizes.{mostPlanes}
@@ -14,7 +14,7 @@ use Rattle.integers.specs.Machine.{read}
 use Rattle.walk.specs.Room.{Room, number-leaves, room-at}
 use Rattle.walk.specs.Together.{decode-next}
 use Rattle.bits.specs.Bits.{tapeOf}
-use Rattle.decoder.specs.Walked.{Source, Walked, NumberRead}
+use Rattle.decoder.specs.Walked.{Walked, NumberRead}
 use Rattle.decoder.proofs.Signs.{kept, within, held}
 
 -- what a number at place i needs to be read

@@ -1,7 +1,7 @@
 -- Signed 32-bit numbers that take a plane's weight.
 use mathlib.Core.Path.{_≡_, refl, sym, ap, _∙_, subst}
 use mathlib.Core.Bool.{Bool, true, false}
-use Prim.Native.Nat.{ℕ, zero, suc, _+_, _^_, _<_, _≤_}
+use Prim.Native.Nat.{ℕ, suc, _+_, _^_, _<_, _≤_}
 use native.Mathlib.Omega.{arith}
 use native.Mathlib.Nat.{pow-succ'}
 use lib.Pow.{pow-pos}
@@ -9,7 +9,7 @@ use lib.IntN.{ℤ, pos, negsuc, negℤ, natAbs, _+ℤ_, _-ℤ_}
 use lib.Signed.{ltZ}
 use mir.Syntax.{w32}
 use mir.Val.{SFits, toZ, ofZ}
-use mir.Facts.{toZ-ofZ, toZ-pos}
+use mir.Facts.{toZ-pos}
 use Rattle.paper.specs.Sizes.{mostPlanes, numberLimit}
 use Rattle.paper.specs.Walk.{negative, signed}
 use Rattle.integers.specs.Difference.{_⊖_, pos-⊖, negsuc-⊖}

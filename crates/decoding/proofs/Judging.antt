@@ -2,13 +2,13 @@
 use mathlib.Core.Path.{_≡_, refl, sym, ap, _∙_}
 use mathlib.Core.Bool.{Bool, true, false}
 use mathlib.Core.List.{List}
-use Prim.Native.Nat.{ℕ, zero, suc, _+_, _*_, _-_, _/_, _%_, _^_, _<_, _≤_}
+use Prim.Native.Nat.{ℕ, zero, suc, _*_, _-_, _/_, _%_, _^_, _<_, _≤_}
 use native.Mathlib.Omega.{arith}
 use lib.Dec.{leb, eqb}
 use borrow.Author.Tests.{eq-eqb, ne-eqb, le-leb, lt-leb, leb-true, eqb-true, eqb-false}
 use lib.IntN.{ℤ}
 use lib.ListN.{length, take}
-use Rattle.paper.specs.Sizes.{sizeIn, levelsIn, planesIn, unless}
+use Rattle.paper.specs.Sizes.{planesIn, unless}
 use Rattle.paper.specs.Bits.{bits}
 use Rattle.paper.specs.Walk.{decodeOf, Settled}
 use Rattle.paper.specs.Jobs.{sizesRefusal, decodingRefusal, decodingJob, settledJob}

@@ -1,9 +1,8 @@
 -- The numbers cleared, the bits capped, and what the planes make of them: the decoding of the paper.
-use mathlib.Core.Path.{_≡_, refl, sym, ap, _∙_, subst}
+use mathlib.Core.Path.{_≡_, refl, sym, ap, _∙_}
 use mathlib.Core.Bool.{Bool, true, false}
 use mathlib.Core.List.{List, [], _∷_, _++_}
-use Prim.Native.Nat.{ℕ, zero, suc, _+_, _*_, _-_, _%_, _^_, _<_, _≤_, min}
-use native.Mathlib.Nat.{mod-eq-of-lt, one-mul}
+use Prim.Native.Nat.{ℕ, suc, _+_, _*_, _-_, _%_, _^_, _<_, _≤_, min}
 use native.Mathlib.Numerals.{add-one}
 use native.Mathlib.Omega.{arith}
 use lib.Dec.{leb, ltb}
@@ -14,13 +13,13 @@ use lib.ListN as ListN
 use lib.Seq.{take-all, take-take, take-suc-set}
 use Rattle.paper.specs.Sizes.{mostSize, mostPlanes}
 use Rattle.paper.specs.Bits.{bits}
-use Rattle.paper.specs.Walk.{Decoder, Tape, walkPlanes, depth, decodeOf, Settled}
+use Rattle.paper.specs.Walk.{Decoder, walkPlanes, depth, decodeOf, Settled}
 use Rattle.sizes.proofs.Counts.{shifted}
 use Rattle.walk.specs.Read.{readLimit, read-limit}
 use Rattle.walk.specs.Room.{Room, room-zeros}
 use Rattle.bits.specs.Bits.{tapeOf}
 use Rattle.bits.proofs.OneBit.{bits-length}
-use Rattle.decoder.specs.Walked.{Source, Walked}
+use Rattle.decoder.specs.Walked.{Source}
 use Rattle.planes.specs.Levels.{IsSquare, PlanesRead}
 
 -- ---- clearing
@@ -35,27 +34,38 @@ cleared-all xs xs₀ i h k s e = sym (take-all i xs h) ∙ e ∙ ap (λ n. repli
 pub first-is : (k L : ℕ) → L < k → k ≤ mostSize → 1 * 2 ^ (2 * (k - L)) % 18446744073709551616 ≡ 4 ^ suc (depth k L)
 first-is k L h g = shifted (k - L) (omega arith) ∙ ap (λ j. 4 ^ j) (let z : k - L ≡ suc (k - suc L) = omega arith in z)
 
-module _ (k L n : ℕ) (xs : List ℤ) (bytes : List ℕ) (b : ℕ) (h : L < k) (g : k ≤ mostSize) (m : n ≤ mostPlanes) (s : length xs ≡ 4 ^ k) (l : b ≤ 8 * length bytes)
-    (zs : List ℤ) (z : zs ≡ replicate (length xs) (pos 0)) (first : ℕ) (f : first ≡ 4 ^ suc (depth k L)) (c : ℕ) (e : c ≡ min readLimit b) where
+-- ---- the planes
+-- sizes that are right, the numbers cleared, the first set, and the bits capped
+pub record Started (k L n : ℕ) (xs : List ℤ) (bytes : List ℕ) (b : ℕ) (zs : List ℤ) (first c : ℕ) : Type 0 where
+  pub less : L < k
+  pub small : k ≤ mostSize
+  pub planes : n ≤ mostPlanes
+  pub places : length xs ≡ 4 ^ k
+  pub lent : b ≤ 8 * length bytes
+  pub zeros : zs ≡ replicate (length xs) (pos 0)
+  pub set : first ≡ 4 ^ suc (depth k L)
+  pub cap : c ≡ min readLimit b
+
+module _ {k L n : ℕ} {xs : List ℤ} {bytes : List ℕ} {b : ℕ} {zs : List ℤ} {first c : ℕ} (A : Started k L n xs bytes b zs first c) where
   levels : suc (depth k L) + L ≡ k
-  levels = omega arith
+  levels = omega (arith, A .less)
 
   size : length zs ≡ 4 ^ (suc (depth k L) + L)
-  size = ap length z ∙ length-replicate (length xs) (pos 0) ∙ s ∙ ap (λ j. 4 ^ j) (sym levels)
+  size = ap length (A .zeros) ∙ length-replicate (length xs) (pos 0) ∙ A .places ∙ ap (λ j. 4 ^ j) (sym levels)
 
   -- ready for the planes
   pub zeros-room : Room n zs
-  zeros-room = rw z (room-zeros n (length xs) m)
+  zeros-room = rw (A .zeros) (room-zeros n (length xs) (A .planes))
 
   pub capped : Source bytes c
-  capped = record { lent = omega arith; missable = omega arith }
+  capped = record { lent = omega (arith, A .cap, A .lent); missable = omega (arith, A .cap) }
 
   pub square : IsSquare zs first
-  square = record { d = depth k L; L = L; is = f; sized = size }
+  square = record { d = depth k L; L = L; is = A .set; sized = size }
 
   -- bits after the cap change nothing
   capped-bits : decodeOf k L n (take b (bits bytes)) ≡ decodeOf k L n (take c (bits bytes))
-  capped-bits = read-limit k L n h g m (take b (bits bytes)) ∙ ap (decodeOf k L n) (shorter (leb b readLimit) refl ∙ ap (λ j. take j (bits bytes)) (sym e))
+  capped-bits = read-limit k L n (A .less) (A .small) (A .planes) (take b (bits bytes)) ∙ ap (decodeOf k L n) (shorter (leb b readLimit) refl ∙ ap (λ j. take j (bits bytes)) (sym (A .cap)))
     where
       shorter : (o : Bool) → leb b readLimit ≡ o → take readLimit (take b (bits bytes)) ≡ take (min readLimit b) (bits bytes)
       shorter true o = let q = leb-true b readLimit o in take-all readLimit (take b (bits bytes)) (omega (arith, length-take b (bits bytes))) ∙ ap (λ j. take j (bits bytes)) (let y : b ≡ min readLimit b = omega arith in y)
@@ -66,11 +76,11 @@ module _ (k L n : ℕ) (xs : List ℤ) (bytes : List ℕ) (b : ℕ) (h : L < k) 
       → decodeOf k L n (take b (bits bytes)) ≡ record { numbers = ys; unfinished = unfinished; read = read }
   unfolding decodeOf tapeOf
   decoded ys unfinished r read R er =
-      let start : zs ≡ replicate (4 ^ k) (pos 0) = z ∙ ap (λ j. replicate j (pos 0)) s in
+      let start : zs ≡ replicate (4 ^ k) (pos 0) = A .zeros ∙ ap (λ j. replicate j (pos 0)) (A .places) in
       let run : walkPlanes Decoder (depth k L) L n (replicate (4 ^ k) (pos 0)) (tapeOf bytes c 0) ≡ ((ys, unfinished), tapeOf bytes c r) =
-      ap (λ x. walkPlanes Decoder (depth k L) L n x (tapeOf bytes c 0)) (sym start) ∙ R .read (depth k L) L f size .is in
+      ap (λ x. walkPlanes Decoder (depth k L) L n x (tapeOf bytes c 0)) (sym start) ∙ R .read (depth k L) L (A .set) size .is in
       let fresh : ltb c 0 ≡ false = le-ltb c 0 (omega arith) in
-      let count : length (take c (bits bytes)) - length (drop r (take c (bits bytes))) ≡ read = omega (arith, length-take c (bits bytes), length-drop r (take c (bits bytes)), bits-length bytes, er, e, l) in
+      let count : length (take c (bits bytes)) - length (drop r (take c (bits bytes))) ≡ read = omega (arith, length-take c (bits bytes), length-drop r (take c (bits bytes)), bits-length bytes, er, A .cap, A .lent) in
       capped-bits
       ∙ ap {B = Settled} (λ q. let v = walkPlanes Decoder (depth k L) L n (replicate (4 ^ k) (pos 0)) (record { left = take c (bits bytes); missed = q }) in record { numbers = v .0 .0; unfinished = v .0 .1; read = length (take c (bits bytes)) - length (v .1 .left) }) (sym fresh)
       ∙ ap {B = Settled} (λ v. record { numbers = v .0 .0; unfinished = v .0 .1; read = length (take c (bits bytes)) - length (v .1 .left) }) run

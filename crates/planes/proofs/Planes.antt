@@ -2,14 +2,14 @@
 use mathlib.Core.Path.{_≡_, refl, sym, ap, _∙_, subst}
 use mathlib.Core.Bool.{Bool, true, false}
 use mathlib.Core.List.{List}
-use Prim.Native.Nat.{ℕ, zero, suc, _+_, _-_, _^_, _<_, _≤_}
+use Prim.Native.Nat.{ℕ, suc, _+_, _-_, _^_, _<_, _≤_}
 use native.Mathlib.Omega.{arith}
 use lib.Dec.{ltb}
 use borrow.Author.Tests.{lt-ltb, le-ltb}
 use lib.IntN.{ℤ}
 use lib.ListN.{length}
 use Rattle.paper.specs.Sizes.{mostPlanes}
-use Rattle.paper.specs.Walk.{Decoder, Tape, walkPlane, walkPlanes}
+use Rattle.paper.specs.Walk.{Decoder, walkPlane, walkPlanes}
 use Rattle.walk.specs.Room.{Room, plane-leaves}
 use Rattle.walk.specs.Together.{Decodes}
 use Rattle.bits.specs.Bits.{tapeOf}

@@ -1,12 +1,12 @@
 -- A plane: the first set and the rest, two parts of a slice written one after the other.
 use mathlib.Core.Path.{_≡_, refl, sym, ap, _∙_, subst}
 use mathlib.Core.List.{List, [], _++_, append-nil}
-use Prim.Native.Nat.{ℕ, suc, _+_, _*_, _-_, _^_, _<_, _≤_}
+use Prim.Native.Nat.{ℕ, suc, _+_, _-_, _^_, _≤_}
 use native.Mathlib.Nat.{pow-le-pow-right, sub-zero}
 use native.Mathlib.Omega.{arith}
 use lib.IntN.{ℤ}
 use lib.ListN.{length, take, drop, length-take, length-drop, length-append}
-use borrow.Rule.Slice.PartMut.{putMid, postOf}
+use borrow.Rule.Slice.PartMut.{putMid}
 use Rattle.paper.specs.Walk.{Decoder, walkSet, walkRest, walkPlane, _next_}
 use Rattle.walk.specs.Room.{Room, room-take, room-drop}
 use Rattle.walk.specs.Together.{decode-next}

@@ -1,14 +1,14 @@
 -- What a test and a number ask for, by what the numbers held say: the walk's definitions, one case at a time.
-use mathlib.Core.Path.{_≡_, refl, sym, ap, _∙_, subst}
+use mathlib.Core.Path.{_≡_, refl, ap}
 use mathlib.Core.Bool.{Bool, true, false}
-use mathlib.Core.List.{List, [], _∷_, _++_, map}
-use Prim.Native.Nat.{ℕ, zero, suc, _+_, _*_, _-_, _^_, _≤_, _<_}
+use mathlib.Core.List.{List, [], _∷_}
+use Prim.Native.Nat.{ℕ, zero, suc, _+_, _-_, _^_, _≤_}
 use native.Mathlib.Nat.{pow-suc, pow-le-pow-right, add-zero}
 use native.Mathlib.Omega.{arith}
 use lib.Dec.{leb}
 use lib.IntN.{ℤ, natAbs}
-use lib.ListN.{length, take, drop, length-drop}
-use Rattle.paper.specs.Walk.{negative, bitOf, reaches, Reading, isOne, testSet, refined, begun, walkNumber, walkPlane, walkSet, walkRest, _next_}
+use lib.ListN.{length, drop, length-drop}
+use Rattle.paper.specs.Walk.{negative, bitOf, reaches, Reading, isOne, testSet, refined, begun, walkNumber}
 
 module _ (R : Reading) where
   pub test-known : (p : ℕ) (xs : List ℤ) → reaches (2 ^ suc p) xs ≡ true → testSet R p xs ≡ R .done true

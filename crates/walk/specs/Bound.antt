@@ -4,15 +4,15 @@ use mathlib.Core.Bool.{Bool, true, false}
 use mathlib.Core.Option.{some}
 use mathlib.Core.List.{List, [], _∷_, _++_, append-nil}
 use Prim.Native.Nat.{ℕ, zero, suc, _+_, _*_, _-_, _/_, _^_, _≤_, _<_}
-use native.Mathlib.Nat.{pow-suc, two-pow-succ, suc-mul, mul-left-comm, pow-le-pow-right}
+use native.Mathlib.Nat.{pow-suc, two-pow-succ, suc-mul, mul-left-comm}
 use native.Mathlib.Omega.{arith}
 use lib.Dec.{leb}
 use borrow.Author.Tests.{leb-true, leb-false, le-leb}
 use lib.IntN.{ℤ, natAbs}
-use lib.ListN.{length, take, drop, length-append, length-take, take-append-drop}
+use lib.ListN.{length, take, drop, length-append, take-append-drop}
 use Rattle.paper.specs.Sizes.{numbersIn, mostBits}
-use Rattle.paper.specs.Walk.{reaches, isOne, Coder, testSet, walkNumber, walkNumbers, walkSet, walkRest, walkPlane, walkPlanes, _next_, codeOf, planeCount, depth, Settled}
-use Rattle.walk.specs.Asks.{behind, Closes, plane-closes, test-known, test-asks, number-known, number-asks, afterBit, opened}
+use Rattle.paper.specs.Walk.{reaches, isOne, Coder, testSet, walkNumber, walkNumbers, walkSet, walkRest, walkPlane, walkPlanes, codeOf, planeCount, depth, _next_}
+use Rattle.walk.specs.Asks.{behind, Closes, test-known, test-asks, number-known, number-asks, afterBit, opened}
 use Rattle.walk.specs.Planes.{planesCode, code-step}
 use Rattle.walk.specs.Decoded.{closed}
 

@@ -1,25 +1,25 @@
 -- What the coding of numbers decodes to: all of it, and any first part of it.
-use mathlib.Core.Path.{_≡_, refl, sym, ap, _∙_, subst}
+use mathlib.Core.Path.{_≡_, refl, sym, ap, _∙_}
 use mathlib.Core.Bool.{Bool, true, false}
 use mathlib.Core.List.{List, [], _∷_, _++_, map, append-nil}
-use Prim.Native.Nat.{ℕ, zero, suc, _+_, _*_, _-_, _/_, _^_, _≤_, _<_, max}
+use Prim.Native.Nat.{ℕ, zero, suc, _+_, _-_, _/_, _^_, _≤_, _<_}
 use native.Mathlib.Nat.{two-pow-succ}
 use native.Mathlib.Omega.{arith}
 use lib.Pow.{pow-mono}
 use lib.Dec.{leb, ltb}
-use borrow.Author.Tests.{leb-true, leb-false, ltb-true, ltb-false}
+use borrow.Author.Tests.{leb-false, ltb-true, ltb-false}
 use lib.IntN.{ℤ, pos, negℤ, natAbs, _-ℤ_}
 use lib.ListN.{length, take, drop, getD, replicate, length-take, length-drop, length-append, take-append-drop}
 use lib.Seq.{take-all, take-add, drop-cons}
 use Rattle.paper.specs.Sizes.{numbersIn, mostPlanes}
 use Rattle.paper.specs.Lists.{at}
-use Rattle.paper.specs.Walk.{negative, signed, largest, bitsNeeded, planeCount, Coder, Decoder, Tape, walkPlanes, depth, codeOf, decodeOf, Settled}
+use Rattle.paper.specs.Walk.{negative, signed, largest, bitsNeeded, planeCount, Decoder, Tape, walkPlanes, depth, codeOf, decodeOf, Settled}
 use Rattle.sizes.proofs.Numbers.{largest-in}
 use Rattle.integers.specs.Difference.{_⊖_, split, pos-⊖}
 use Rattle.integers.specs.Order.{ints, zarith}
 use Rattle.walk.specs.Cleared.{high, cleared, natAbs-cleared, high-le, lt-high, high-mono, negative-signed, signed-zero, signed-self, cleared-none, cleared-small}
 use Rattle.walk.specs.Asks.{Closes, plane-closes}
-use Rattle.walk.specs.Together.{tape, settled}
+use Rattle.walk.specs.Together.{tape}
 use Rattle.walk.specs.Planes.{unsettled, unsettled-most, settled-at, planesCode, Stopped, Further, run, run-whole, run-part}
 
 -- ---- one number
@@ -55,6 +55,9 @@ gap true a b h = turned-gap (pos a) (pos b) ∙ upward-gap (pos a) (pos b) a b (
 cleared-gap : (q : ℕ) (x : ℤ) → natAbs (x -ℤ cleared q x) ≡ natAbs x - high q (natAbs x)
 unfolding cleared
 cleared-gap q x = ap (λ z. natAbs (z -ℤ signed (negative x) (high q (natAbs x)))) (sym (signed-self x)) ∙ gap (negative x) (natAbs x) (high q (natAbs x)) (high-le q (natAbs x))
+
+no-gap : (x : ℤ) → natAbs (x -ℤ x) ≡ 0
+no-gap x = rw (split x) (simp ints (omega arith))
 
 -- ---- the plane count fits
 fits-bits : (most m : ℕ) → m < 2 ^ most → m < 2 ^ bitsNeeded most m
@@ -164,6 +167,22 @@ module _ (k L : ℕ) (xs : List ℤ) (levels : L < k) (square : length xs ≡ 4 
           let S = some-bits b b (omega arith) g in
           rw (stopped-at b i (S .fewer), decoded (take b code) (S .fewer .is)) (cleared-truthful (unsettled (S .plane) (S .count) i) (suc (S .plane)) (at xs i) (unsettled-most (S .plane) (S .count) i))
 
+  -- So no number is further than 2 ^ p - 1 from the truth.
+  pub near : (b i : ℕ) → natAbs (at xs i -ℤ at ((decodedFirst k L xs b) .numbers) i) ≤ 2 ^ (decodedFirst k L xs b) .unfinished - 1
+  near b i = split-bits b _ every some
+    where
+      x : ℤ
+      x = at xs i
+
+      every : length code ≤ b → natAbs (x -ℤ at ((decodedFirst k L xs b) .numbers) i) ≤ 2 ^ (decodedFirst k L xs b) .unfinished - 1
+      every h = rw (all-bits b h) (omega (arith, no-gap x))
+
+      some : b < length code → natAbs (x -ℤ at ((decodedFirst k L xs b) .numbers) i) ≤ 2 ^ (decodedFirst k L xs b) .unfinished - 1
+      some g =
+          let S = some-bits b b (omega arith) g in
+          let q = unsettled (S .plane) (S .count) i in
+          rw (stopped-at b i (S .fewer), decoded (take b code) (S .fewer .is)) (omega (arith, cleared-gap q x, lt-high q (natAbs x), pow-mono (unsettled-most (S .plane) (S .count) i)))
+
   -- More bits never move a number away from the truth.
   pub better : (b c i : ℕ) → b ≤ c
       → natAbs (at xs i -ℤ at ((decodedFirst k L xs c) .numbers) i) ≤ natAbs (at xs i -ℤ at ((decodedFirst k L xs b) .numbers) i)
@@ -173,7 +192,7 @@ module _ (k L : ℕ) (xs : List ℤ) (levels : L < k) (square : length xs ≡ 4 
       x = at xs i
 
       every : length code ≤ c → natAbs (x -ℤ at ((decodedFirst k L xs c) .numbers) i) ≤ natAbs (x -ℤ at ((decodedFirst k L xs b) .numbers) i)
-      every g = rw (all-bits c g) (omega (arith, ap (λ z. natAbs (x -ℤ z)) (sym (cleared-none x)) ∙ cleared-gap 0 x, natAbs-cleared 0 x, ap natAbs (cleared-none x)))
+      every g = rw (all-bits c g) (omega (arith, no-gap x))
 
       some : c < length code → natAbs (x -ℤ at ((decodedFirst k L xs c) .numbers) i) ≤ natAbs (x -ℤ at ((decodedFirst k L xs b) .numbers) i)
       some g =

@@ -1,14 +1,14 @@
 -- Over one plane the coder's walk and the decoder's go together: a test, a number, a set, the rest, the plane.
 use mathlib.Core.Path.{_≡_, refl, sym, ap, _∙_, subst}
 use mathlib.Core.Bool.{Bool, true, false}
-use mathlib.Core.Option.{Option, none, some}
+use mathlib.Core.Option.{some}
 use mathlib.Core.List.{List, [], _∷_, _++_, map, append-nil, append-assoc}
-use Prim.Native.Nat.{ℕ, zero, suc, _+_, _*_, _^_, _≤_, _<_}
+use Prim.Native.Nat.{ℕ, zero, suc, _+_, _^_, _≤_, _<_}
 use native.Mathlib.Omega.{arith}
 use lib.Dec.{leb}
 use borrow.Author.Tests.{leb-true, leb-false}
 use lib.IntN.{ℤ, natAbs}
-use lib.ListN.{length, take, drop, take-append-drop}
+use lib.ListN.{take, drop, take-append-drop}
 use Rattle.paper.specs.Walk.{negative, signed, bitOf, worth, reaches, Reading, Coder, Decoder, Tape, nextBit, isOne, testSet, refined, begun, walkNumber, walkNumbers, walkSet, walkRest, walkPlane, _next_}
 use Rattle.walk.specs.Cleared.{cleared, leb-cleared, cleared-refined, cleared-begun, cleared-still, reaches-cleared, closed-still}
 use Rattle.walk.specs.Asks.{test-known, test-asks, number-known, number-asks, afterBit, opened, behind, Closes}

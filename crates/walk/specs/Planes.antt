@@ -1,5 +1,5 @@
 -- The planes one after the other: where a first part of the coding stops, what is settled there, and that more bits settle more.
-use mathlib.Core.Path.{_≡_, refl, sym, ap, _∙_, subst}
+use mathlib.Core.Path.{_≡_, refl, sym, ap, _∙_}
 use mathlib.Core.Logic.{_⊎_, inl, inr}
 use mathlib.Core.Bool.{Bool, true, false}
 use mathlib.Core.List.{List, [], _∷_, _++_, map, append-nil, append-assoc}
@@ -7,12 +7,12 @@ use Prim.Native.Nat.{ℕ, zero, suc, _+_, _^_, _≤_, _<_}
 use native.Mathlib.Omega.{arith}
 use lib.Pow.{pow-pos}
 use lib.IntN.{ℤ, pos}
-use lib.ListN.{length, take, drop, getD, length-append}
+use lib.ListN.{length, drop, length-append}
 use Rattle.paper.specs.Lists.{at}
 use Rattle.paper.specs.Walk.{Coder, Decoder, Tape, walkPlane, walkPlanes}
 use Rattle.walk.specs.Cleared.{cleared, cleared-small}
 use Rattle.walk.specs.Asks.{Closes}
-use Rattle.walk.specs.Together.{tape, settled, Together, Grows, Stops, Ends, Goes, parted, nothing-after}
+use Rattle.walk.specs.Together.{tape, settled, Together, Stops, Ends, Goes, parted, nothing-after}
 use Rattle.walk.specs.Plane.{together-plane}
 
 -- ---- number by number

@@ -1,6 +1,6 @@
 -- What decoding reads of any bits at all: all of them while a plane is unfinished, none after plane 0 is complete,
 -- and never more than a fixed count. It writes as many numbers as there are places.
-use mathlib.Core.Path.{_≡_, refl, sym, ap, _∙_, subst}
+use mathlib.Core.Path.{_≡_, refl, sym, ap, _∙_}
 use mathlib.Core.Bool.{Bool, true, false}
 use mathlib.Core.Option.{Option, none, some}
 use mathlib.Core.List.{List, [], _∷_, _++_, append-nil}

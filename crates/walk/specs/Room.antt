@@ -1,19 +1,19 @@
 -- Each plane of a decoding adds at most its weight to a magnitude, so that decoded numbers stay within the limit.
-use mathlib.Core.Path.{_≡_, refl, sym, ap, _∙_, subst}
+use mathlib.Core.Path.{_≡_, refl}
 use mathlib.Core.Bool.{Bool, true, false, _&&_}
 use mathlib.Core.Option.{Option, none, some}
 use mathlib.Core.List.{List, [], _∷_, _++_}
-use Prim.Native.Nat.{ℕ, zero, suc, _+_, _*_, _^_, _<_, _≤_}
+use Prim.Native.Nat.{ℕ, zero, suc, _+_, _^_, _<_, _≤_}
 use native.Mathlib.Nat.{pow-succ'}
 use native.Mathlib.Omega.{arith}
 use lib.Pow.{pow-pos, pow-mono}
 use lib.Dec.{leb}
 use borrow.Author.Tests.{le-leb}
 use lib.IntN.{ℤ, pos, natAbs}
-use lib.ListN.{length, take, drop, getD, replicate}
+use lib.ListN.{length, take, drop, replicate}
 use Rattle.paper.specs.Sizes.{numbersIn, numberLimit, mostPlanes}
 use Rattle.paper.specs.Lists.{at}
-use Rattle.paper.specs.Walk.{negative, worth, Decoder, Tape, nextBit, isOne, testSet, refined, begun, walkNumber, walkNumbers, walkSet, walkRest, walkPlane, walkPlanes, depth, decodeOf, Settled, _next_}
+use Rattle.paper.specs.Walk.{negative, worth, Decoder, Tape, nextBit, isOne, testSet, refined, begun, walkNumber, walkNumbers, walkSet, walkRest, walkPlane, walkPlanes, depth, decodeOf, _next_}
 use Rattle.walk.specs.Cleared.{natAbs-signed}
 use Rattle.walk.specs.Asks.{behind, number-known, number-asks, afterBit, opened}
 use Rattle.walk.specs.Together.{tape, Decodes}

@@ -1,19 +1,15 @@
 -- The coder's walk and the decoder's walk over one plane go together. Before plane p the decoder holds the truth with its
 -- low p + 1 bits cleared, after it the truth with its low p bits cleared, and in between a front part is settled.
-use mathlib.Core.Path.{_≡_, refl, sym, ap, _∙_, subst}
+use mathlib.Core.Path.{_≡_, refl, sym, ap, _∙_}
 use mathlib.Core.Logic.{_⊎_, inl, inr}
 use mathlib.Core.Bool.{Bool, true, false}
-use mathlib.Core.Option.{Option, none, some}
 use mathlib.Core.List.{List, [], _∷_, _++_, map, append-nil, append-assoc}
-use Prim.Native.Nat.{ℕ, zero, suc, _+_, _*_, _^_, _≤_, _<_}
+use Prim.Native.Nat.{ℕ, zero, suc, _+_, _≤_}
 use native.Mathlib.Omega.{arith}
-use lib.Dec.{leb, ltb}
-use borrow.Author.Tests.{leb-true, leb-false}
-use lib.IntN.{ℤ, pos, natAbs}
-use lib.ListN.{length, take, drop, getD, take-append-drop}
-use Rattle.paper.specs.Lists.{at, pick}
-use Rattle.paper.specs.Walk.{negative, signed, bitOf, worth, reaches, Reading, Coder, Decoder, Tape, nextBit, isOne, testSet, refined, begun, walkNumber, walkNumbers, walkSet, walkRest, walkPlane, _next_}
-use Rattle.walk.specs.Cleared.{cleared, leb-cleared, cleared-refined, cleared-begun, cleared-still, reaches-cleared, closed-still}
+use lib.IntN.{ℤ}
+use lib.ListN.{length}
+use Rattle.paper.specs.Walk.{Coder, Decoder, Tape, _next_}
+use Rattle.walk.specs.Cleared.{cleared}
 
 abbrev pub tape : List Bool → Bool → Tape
 tape l m = record { left = l; missed = m }
