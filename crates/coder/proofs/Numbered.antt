@@ -22,23 +22,30 @@ use Rattle.scan.specs.declared.Seen.the-variants.{Known, New, Closed}
 use Rattle.coder.specs.Coded.{numberBits, fourBits, said}
 
 -- ---- a number
-number-bits : (p : ℕ) (x : ℤ) (known new : Bool) → leb (2 ^ suc p) (natAbs x) ≡ known → leb (2 ^ p) (natAbs x) ≡ new
-    → numberBits p x ≡ pick known (bitOf p (natAbs x) ∷ []) (pick new (true ∷ negative x ∷ []) (false ∷ []))
-unfolding walkNumber
-number-bits p x known new e f = go (leb (2 ^ suc p) (natAbs x)) (leb (2 ^ p) (natAbs x)) ∙ (λ i. pick (e i) (bitOf p (natAbs x) ∷ []) (pick (f i) (true ∷ negative x ∷ []) (false ∷ [])))
+-- the number is held, and its bits go by the two tests that the walk makes
+pub number-is : (p : ℕ) (x : ℤ) (known new : Bool) → leb (2 ^ suc p) (natAbs x) ≡ known → leb (2 ^ p) (natAbs x) ≡ new
+    → walkNumber Coder p x ≡ (x ∷ [], pick known (bitOf p (natAbs x) ∷ []) (pick new (true ∷ negative x ∷ []) (false ∷ [])))
+unfolding walkNumber refined begun
+number-is p x known new e f =
+    go (leb (2 ^ suc p) (natAbs x)) (leb (2 ^ p) (natAbs x)) ∙ (λ i. (x ∷ [], pick (e i) (bitOf p (natAbs x) ∷ []) (pick (f i) (true ∷ negative x ∷ []) (false ∷ []))))
   where
     go : (b c : Bool)
-        → (elim b as (λ _. List ℤ × List Bool) [
+        → _≡_ {A = List ℤ × List Bool}
+        (elim b [
           | true ↦ (refined Coder p x (some (bitOf p (natAbs x))) ∷ [], bitOf p (natAbs x) ∷ [])
           | false ↦ Coder .then (some c, c ∷ []) (λ o. elim (isOne Coder o) as (λ _. List ℤ × List Bool) [
             | true ↦ Coder .then (some (negative x), negative x ∷ []) (λ s. (begun Coder p x s ∷ [], []))
             | false ↦ (x ∷ [], [])
           ])
-        ]) .1
-        ≡ pick b (bitOf p (natAbs x) ∷ []) (pick c (true ∷ negative x ∷ []) (false ∷ []))
+        ])
+        (x ∷ [], pick b (bitOf p (natAbs x) ∷ []) (pick c (true ∷ negative x ∷ []) (false ∷ [])))
     go true c = refl
     go false true = refl
     go false false = refl
+
+number-bits : (p : ℕ) (x : ℤ) (known new : Bool) → leb (2 ^ suc p) (natAbs x) ≡ known → leb (2 ^ p) (natAbs x) ≡ new
+    → numberBits p x ≡ pick known (bitOf p (natAbs x) ∷ []) (pick new (true ∷ negative x ∷ []) (false ∷ []))
+number-bits p x known new e f = ap (λ c. c .1) (number-is p x known new e f)
 
 -- t is T and m the magnitude; the sinks are those that the puts leave
 module _ (p limit t m : ℕ) (x : ℤ) (is-t : t ≡ 2 ^ p) (is-m : m ≡ natAbs x) where

@@ -1,7 +1,7 @@
 -- Parts of a set and of the rest, as the code cuts them.
-use mathlib.Core.Path.{_≡_, refl, sym, ap, _∙_, subst}
+use mathlib.Core.Path.{_≡_, sym, ap, _∙_}
 use mathlib.Core.Bool.{Bool, true}
-use mathlib.Core.List.{List, [], _∷_, _++_}
+use mathlib.Core.List.{List}
 use Prim.Native.Nat.{ℕ, zero, suc, _+_, _*_, _-_, _/_, _^_, _<_, _≤_}
 use native.Mathlib.Nat.{pow-suc, sub-zero, mul-div-cancel, pow-le-pow-right}
 use native.Mathlib.Omega.{arith}
@@ -9,12 +9,9 @@ use lib.IntN.{ℤ}
 use lib.ListN.{length, take, drop, length-take, length-drop}
 use lib.Seq.{drop-drop, take-all}
 use Rattle.paper.specs.Sizes.{numbersIn}
-use Rattle.paper.specs.Walk.{walkRest}
 use Rattle.bits.specs.Bits.{Sink, wrote}
 use Rattle.scan.proofs.Numbers.{numbers-take, numbers-drop}
-use Rattle.scan.specs.declared.Seen.{Seen}
-use Rattle.scan.specs.Seen.{seenOf}
-use Rattle.coder.specs.Coded.{setBits, restBits, Quad, CodedSet, Rest, CodedRest}
+use Rattle.coder.specs.Coded.{setBits, Quad, CodedSet}
 use Rattle.coder.proofs.Numbered.{wrote-four}
 use Rattle.coder.proofs.Tested.{three}
 

@@ -2,20 +2,18 @@
 -- so that each plane is coded of the same numbers.
 use mathlib.Core.Path.{_≡_, refl, sym, ap, _∙_}
 use mathlib.Core.Bool.{Bool, true, false}
-use mathlib.Core.Option.{some}
 use mathlib.Core.List.{List, [], _∷_, _++_}
-use Prim.Native.Nat.{ℕ, zero, suc, _+_, _*_, _-_, _^_, _<_, _≤_}
+use Prim.Native.Nat.{ℕ, zero, suc, _+_, _-_, _^_, _≤_}
 use native.Mathlib.Nat.{pow-le-pow-right, sub-zero}
 use native.Mathlib.Omega.{arith}
-use lib.Dec.{leb}
-use lib.IntN.{ℤ, natAbs}
+use lib.IntN.{ℤ}
 use lib.ListN.{length, take, drop, length-take, length-drop, take-append-drop}
 use lib.Seq.{take-all}
-use Rattle.paper.specs.Walk.{Coder, bitOf, negative, reaches, isOne, testSet, refined, begun, walkNumber, _next_, walkNumbers, walkSet, walkRest, walkPlane, walkPlanes}
+use Rattle.paper.specs.Walk.{Coder, testSet, walkNumber, _next_, walkNumbers, walkSet, walkRest, walkPlane, walkPlanes}
 use Rattle.bits.specs.Bits.{Sink, wrote}
 use Rattle.bits.proofs.Written.{wrote-append}
 use Rattle.coder.specs.Coded.{setBits, restBits, planeBits, Quad, CodedSet, Rest, CodedRest, Levels, CodedPlane}
-use Rattle.coder.proofs.Numbered.{next-bits}
+use Rattle.coder.proofs.Numbered.{number-is, next-bits}
 
 -- ---- where the first set and the rest lie
 module _ (xs : List ℤ) (first : ℕ) where
@@ -56,21 +54,7 @@ unfolding _next_
 next-held c e xs ys zs f g h = (λ i. f i ++ g i) ∙ h
 
 number-held : (p : ℕ) (x : ℤ) → (walkNumber Coder p x) .0 ≡ x ∷ []
-unfolding walkNumber refined begun
-number-held p x = go (leb (2 ^ suc p) (natAbs x)) (leb (2 ^ p) (natAbs x))
-  where
-    go : (b c : Bool)
-        → (elim b as (λ _. List ℤ × List Bool) [
-          | true ↦ (refined Coder p x (some (bitOf p (natAbs x))) ∷ [], bitOf p (natAbs x) ∷ [])
-          | false ↦ Coder .then (some c, c ∷ []) (λ o. elim (isOne Coder o) as (λ _. List ℤ × List Bool) [
-            | true ↦ Coder .then (some (negative x), negative x ∷ []) (λ s. (begun Coder p x s ∷ [], []))
-            | false ↦ (x ∷ [], [])
-          ])
-        ]) .0
-        ≡ x ∷ []
-    go true c = refl
-    go false true = refl
-    go false false = refl
+number-held p x = ap (λ c. c .0) (number-is p x _ _ refl refl)
 
 numbers-held : (p : ℕ) (xs : List ℤ) → (walkNumbers Coder p xs) .0 ≡ xs
 unfolding walkNumbers

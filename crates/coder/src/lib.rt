@@ -2,8 +2,7 @@
 // its bits behind those that are there and answers the next place; at the limit nothing more is put.
 ghost use mathlib.Core.Path.{_≡_};
 ghost use mathlib.Core.Bool.{true};
-ghost use mathlib.Core.List.{List};
-ghost use Prim.Native.Nat.{ℕ, _*_, _<_, _≤_};
+ghost use Prim.Native.Nat.{_*_, _<_, _≤_};
 ghost use lib.ListN.{length};
 ghost use Rattle.paper.specs.Sizes.{numberLimit, mostPlanes, numbersIn};
 ghost use Rattle.integers.specs.Order.{Within};

@@ -1,8 +1,8 @@
 -- The job: which row refuses it, what it is once no row does, and what it then hands over.
-use mathlib.Core.Path.{_≡_, refl, sym, ap, _∙_}
+use mathlib.Core.Path.{_≡_, sym, ap, _∙_}
 use mathlib.Core.Bool.{Bool, true, false}
 use mathlib.Core.List.{List}
-use Prim.Native.Nat.{ℕ, zero, suc, _+_, _*_, _/_, _^_, _<_, _≤_, min}
+use Prim.Native.Nat.{ℕ, zero, suc, _*_, _/_, _^_, _<_, _≤_, min}
 use native.Mathlib.Omega.{arith}
 use lib.Dec.{leb, eqb}
 use lib.IntN.{ℤ}
@@ -11,7 +11,7 @@ use borrow.Author.Tests.{eqb-true}
 use Rattle.paper.specs.Sizes.{mostPlanes, sizeIn, levelsIn, numbersIn, unless}
 use Rattle.paper.specs.Walk.{largest, bitsNeeded, planeCount, codeOf}
 use Rattle.paper.specs.Bits.{laid}
-use Rattle.paper.specs.Jobs.{sizesRefusal, Coding, codingRefusal, writtenOf, codingJob}
+use Rattle.paper.specs.Jobs.{sizesRefusal, codingRefusal, writtenOf, codingJob}
 use Rattle.sizes.proofs.Refusals.{row-passed, rows-left, size-accepted, levels-accepted, sizes-left, sizes-stand, sizes-leave, refused-is, done-is}
 use Rattle.bits.specs.Bits.{Sink, wrote}
 use Rattle.bits.proofs.Written.{wrote-laid}

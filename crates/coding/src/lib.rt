@@ -1,7 +1,7 @@
 // Coding, with a bit limit: the job with its refusals, over the planes from the highest down.
 ghost use mathlib.Core.Path.{_≡_};
 ghost use mathlib.Core.Bool.{true};
-ghost use Prim.Native.Nat.{ℕ, suc, _*_, _^_, _≤_, min};
+ghost use Prim.Native.Nat.{suc, _*_, _^_, _≤_, min};
 ghost use lib.ListN.{length};
 ghost use Rattle.paper.specs.Sizes.{mostPlanes, sizeIn, levelsIn, numbersIn};
 ghost use Rattle.paper.specs.Walk.{depth};

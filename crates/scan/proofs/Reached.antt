@@ -1,8 +1,8 @@
 -- The laws of the scan: T, one number passed, and what is seen at the end.
 use mathlib.Core.Path.{_≡_, refl, sym, ap, _∙_}
 use mathlib.Core.Bool.{Bool, true, false}
-use mathlib.Core.List.{List, [], _∷_}
-use Prim.Native.Nat.{ℕ, zero, suc, _+_, _*_, _%_, _^_, _<_, _≤_}
+use mathlib.Core.List.{List}
+use Prim.Native.Nat.{ℕ, suc, _+_, _*_, _%_, _^_, _<_, _≤_}
 use native.Mathlib.Nat.{pow-succ', mod-eq-of-lt}
 use native.Mathlib.Omega.{arith}
 use native.Mathlib.Numerals.{add-one}
@@ -15,7 +15,6 @@ use borrow.Author.Tests.{le-leb, lt-leb}
 use Rattle.paper.specs.Sizes.{mostPlanes}
 use Rattle.paper.specs.Lists.{pick, at}
 use Rattle.paper.specs.Walk.{reaches}
-use Rattle.scan.specs.declared.Seen.{Seen}
 use Rattle.scan.specs.declared.Seen.the-variants.{Known, New, Closed}
 use Rattle.scan.specs.Seen.{seenOf}
 

@@ -1,7 +1,7 @@
 // The set test: what a set shows on plane p, found by one scan that ends at the first magnitude of 2T or more.
 ghost use mathlib.Core.Path.{_≡_};
 ghost use mathlib.Core.Bool.{true};
-ghost use Prim.Native.Nat.{ℕ, _^_, _<_};
+ghost use Prim.Native.Nat.{_^_, _<_};
 ghost use lib.IntN.{natAbs};
 ghost use Rattle.paper.specs.Sizes.{numberLimit, mostPlanes, numbersIn};
 ghost use Rattle.integers.specs.Order.{Within};

@@ -1,5 +1,5 @@
 -- The measure is the length of the rest: what is behind three sets is shorter.
-use Prim.Native.Nat.{_+_, _≤_, ℕ, _<_}
+use Prim.Native.Nat.{_+_, ℕ, _<_}
 use native.Mathlib.Omega.{arith}
 use lib.ListN.{length}
 use denote.Ref.{now}

@@ -1,7 +1,7 @@
 -- The first set and the rest are parts of the numbers.
 use Prim.Native.Nat.{_-_}
 use native.Mathlib.Omega.{arith}
-use lib.ListN.{length, take, drop}
+use lib.ListN.{length, drop}
 use borrow.Author.Needs.{needs}
 use Rattle.scan.proofs.Numbers.{numbers-take, numbers-drop}
 use Rattle.coder.proofs.Planes.{first-fits, first-quad, first-rest, plane-coded}

@@ -1,9 +1,6 @@
 -- Refused with the number of its row, or done with what the planes wrote.
-use mathlib.Core.Path.{_∙_}
-use Prim.Native.Nat.{_≤_}
 use native.Mathlib.Omega.{arith}
 use borrow.Author.Needs.{needs}
-use Rattle.paper.specs.Sizes.{mostPlanes}
 use Rattle.coding.proofs.Job.{accepted, planes-few, refused, done}
 use Rattle.coding.proofs.code.Tie as tie
 use Rattle.coding.proofs.code.Statement.{statement}

@@ -32,7 +32,7 @@ loop-less c = search needs
 
 loop-again : tie.Need-loop-again Inv-loop μ-loop
 loop-again c =
-    let S = c .before .before .before .before .before .before .before .before in above-next _ _ _ _ _ _ _ _ _ _ _ _ (S .pre .0 .1) (S .pre .1 .0 .0) (c .before .before .before .before .before .before .first-places .ensures) (c .before .before .before .before .before .loop .inv) (c .before .before .before .before .loop-test .taken) (c .before .before .code-plane .ensures) (c .before .before .code-plane .kept .1 .1 .1 .0)
+    let S = c .before .before .before .before .before .before .before .before in above-next _ _ _ _ _ _ _ _ _ _ _ _ (S .pre .0 .1) (S .pre .1 .0 .0) (c .before .before .before .before .before .before .first-places .ensures) (c .before .before .before .before .before .loop .inv) (omega arith) (c .before .before .code-plane .ensures) (c .before .before .code-plane .kept .1 .1 .1 .0)
 
 same-length : tie.Need-same-length Inv-loop μ-loop
 same-length c = search needs
