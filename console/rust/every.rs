@@ -20,7 +20,7 @@ struct Comparison {
 impl Comparison {
     fn same(&mut self, request: &Request) {
         self.cases += 1;
-        if library::answer(request) != transcript::answer(request) {
+        if transcript::answer_bytes(&library::answer(request)) != transcript::answer_bytes(&transcript::answer(request)) {
             println!("a difference: {}", show::line(request));
             exit(1);
         }
