@@ -55,7 +55,7 @@ forward-in-sub-forward-in : (t : ℕ) → forward-in-lts.Need-sub-forward-in (
   forward-in-below t,
   forward-in.Post,
 ) (forward-in-at t) forward-in.Post
-forward-in-sub-forward-in t c = search needs
+forward-in-sub-forward-in t c = omega arith
 
 forward-in-sub-forward-in-2 : (t : ℕ) → forward-in-lts.Need-sub-forward-in-2 (
   level-reads.Asked,
@@ -63,7 +63,7 @@ forward-in-sub-forward-in-2 : (t : ℕ) → forward-in-lts.Need-sub-forward-in-2
   forward-in-below t,
   forward-in.Post,
 ) (forward-in-at t) forward-in.Post
-forward-in-sub-forward-in-2 t c = search needs
+forward-in-sub-forward-in-2 t c = omega arith
 
 forward-in-slice-relend-prefix-forward-in :
     (t : ℕ) → forward-in-lts.Need-slice-relend-prefix-forward-in (
@@ -72,7 +72,7 @@ forward-in-slice-relend-prefix-forward-in :
       forward-in-below t,
       forward-in.Post,
     ) (forward-in-at t) forward-in.Post
-forward-in-slice-relend-prefix-forward-in t c = search needs
+forward-in-slice-relend-prefix-forward-in t c = omega arith
 
 forward-in-slice-aggregate-forward-in : (t : ℕ) → forward-in-lts.Need-slice-aggregate-forward-in (
   level-reads.Asked,

@@ -11,13 +11,13 @@ side-requires : tie.Need-side-requires
 side-requires c κs = search needs
 
 slice-relend-prefix-passes : tie.Need-slice-relend-prefix-passes
-slice-relend-prefix-passes c = search needs
+slice-relend-prefix-passes c = omega arith
 
 slice-aggregate-passes : tie.Need-slice-aggregate-passes
 slice-aggregate-passes c = sym (length-take-le _ _ (omega arith))
 
 slice-relend-prefix-passes-2 : tie.Need-slice-relend-prefix-passes-2
-slice-relend-prefix-passes-2 c = search needs
+slice-relend-prefix-passes-2 c = omega arith
 
 slice-aggregate-passes-2 : tie.Need-slice-aggregate-passes-2
 slice-aggregate-passes-2 c = sym (length-take-le _ _ (omega arith))

@@ -32,10 +32,10 @@ turn-line-requires c κs =
     (p .0, (p .1 .0, (b, (P .size ∙ p .1 .1 .0, (rw e (line-each (a .j) (a .down) (a .xs .now) (t .loop .l) (p .1 .1 .1 .0)), (t .loop .inv .1, t .loop .inv .2))))))
 
 add-l : tie.Need-add-l Inv-loop μ-loop
-add-l c = search needs
+add-l c = omega arith
 
 loop-less : tie.Need-loop-less Inv-loop μ-loop
-loop-less c = search needs
+loop-less c = omega arith
 
 loop-again : tie.Need-loop-again Inv-loop μ-loop
 loop-again c =
