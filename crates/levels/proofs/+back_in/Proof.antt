@@ -100,7 +100,7 @@ back-in-same-length : (t : ℕ) → back-in-lts.Need-same-length (
   level-reads.Asked,
   level-reads.Learnt,
 ) (back-in-at t) back-in.Post
-back-in-same-length t c = search needs
+back-in-same-length t c = omega arith
 
 back-in-same-length-2 : (t : ℕ) → back-in-lts.Need-same-length-2 (
   back-in-below t,
@@ -108,7 +108,7 @@ back-in-same-length-2 : (t : ℕ) → back-in-lts.Need-same-length-2 (
   level-reads.Asked,
   level-reads.Learnt,
 ) (back-in-at t) back-in.Post
-back-in-same-length-2 t c = search needs
+back-in-same-length-2 t c = omega arith
 
 back-in-same-length-3 : (t : ℕ) → back-in-lts.Need-same-length-3 (
   back-in-below t,
@@ -116,7 +116,7 @@ back-in-same-length-3 : (t : ℕ) → back-in-lts.Need-same-length-3 (
   level-reads.Asked,
   level-reads.Learnt,
 ) (back-in-at t) back-in.Post
-back-in-same-length-3 t c = search needs
+back-in-same-length-3 t c = omega arith
 
 back-in-returns-2 : (t : ℕ) → back-in-lts.Need-returns-2 (
   back-in-below t,

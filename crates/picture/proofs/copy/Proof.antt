@@ -8,7 +8,6 @@ use lib.IntN.{pos}
 use Rattle.integers.specs.Machine.{read}
 use Rattle.paper.specs.Lists.{at}
 use Rattle.line.proofs.Made.{Filled, filled-none, filled-more}
-use borrow.Author.Needs.{needs}
 use Rattle.picture.proofs.copy.Statement.{statement}
 use Rattle.picture.proofs.copy.Tie as tie
 
@@ -50,7 +49,7 @@ loop-again c =
     )
 
 same-length : tie.Need-same-length Inv-loop μ-loop
-same-length c = search needs
+same-length c = omega arith
 
 returns : tie.Need-returns Inv-loop μ-loop
 returns c =

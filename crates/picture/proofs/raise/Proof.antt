@@ -11,7 +11,6 @@ use Rattle.paper.specs.Lists.{at}
 use Rattle.paper.specs.Square.{raised}
 use Rattle.line.proofs.Made.{Filled, filled-none, filled-more, filled-all}
 use Rattle.picture.proofs.Greys.{raise-fits}
-use borrow.Author.Needs.{needs}
 use Rattle.picture.proofs.raise.Statement.{statement}
 use Rattle.picture.proofs.raise.Tie as tie
 
@@ -63,7 +62,7 @@ loop-again c =
     )
 
 same-length : tie.Need-same-length Inv-loop μ-loop
-same-length c = search needs
+same-length c = omega arith
 
 returns : tie.Need-returns Inv-loop μ-loop
 unfolding raised

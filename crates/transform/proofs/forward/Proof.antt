@@ -1,6 +1,7 @@
 -- `transform::forward` meets its contract.
 use Rattle.paper.specs.Jobs.{forwardJob}
 use Rattle.transform.proofs.Refusals.{job-refused, forward-accepted, forward-done}
+use native.Mathlib.Omega.{arith}
 use borrow.Author.Needs.{needs}
 use Rattle.transform.proofs.forward.Statement.{statement}
 use Rattle.transform.proofs.forward.Tie as tie
@@ -9,7 +10,7 @@ forward-refusal-requires : tie.Need-forward-refusal-requires
 forward-refusal-requires c κs = search needs
 
 same-length : tie.Need-same-length
-same-length c = search needs
+same-length c = omega arith
 
 returns : tie.Need-returns
 unfolding forwardJob
@@ -25,7 +26,7 @@ plane-count-requires : tie.Need-plane-count-requires
 plane-count-requires c κs = c .before .before .to-numbers .ensures .1
 
 same-length-2 : tie.Need-same-length-2
-same-length-2 c = search needs
+same-length-2 c = omega arith
 
 returns-2 : tie.Need-returns-2
 returns-2 c =
