@@ -10,7 +10,7 @@ forward-refusal-requires : tie.Need-forward-refusal-requires
 forward-refusal-requires c κs = search needs
 
 same-length : tie.Need-same-length
-same-length c = omega arith
+same-length c = search needs
 
 returns : tie.Need-returns
 unfolding forwardJob

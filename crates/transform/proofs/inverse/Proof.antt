@@ -14,10 +14,10 @@ inverse-refusal-requires : tie.Need-inverse-refusal-requires
 inverse-refusal-requires c κs = search needs
 
 same-length : tie.Need-same-length
-same-length c = omega arith
+same-length c = search needs
 
 same-length-2 : tie.Need-same-length-2
-same-length-2 c = omega arith
+same-length-2 c = search needs
 
 returns : tie.Need-returns
 unfolding inverseJob
