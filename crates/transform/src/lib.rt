@@ -9,6 +9,7 @@ ghost use Rattle.paper.specs.Square.{numbersOf, greysOf};
 ghost use Rattle.paper.specs.Jobs.{forwardRefusal, forwardJob, inverseRefusal, inverseJob};
 
 // What the job forward answers: why it refused, or 0, and the plane count n.
+#[repr(C)]
 pub struct Planes {
     pub refusal: u32,
     pub n: u32,
