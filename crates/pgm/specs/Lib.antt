@@ -1,0 +1,3 @@
+-- The header of a binary PGM, and a few headers read.
+pub mod Header
+pub mod Cases
