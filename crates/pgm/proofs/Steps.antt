@@ -71,6 +71,6 @@ digit-low c e = go (leb 48 c) refl
     go true h = leb-true 48 c h
     go false h = absurd (let z : _≡_ {A = Bool} false true = rw h at e in let y : _≡_ {A = ℕ} 0 1 = cc in omega arith)
 
-pub small : (value c : ℕ) → withDigit value c ≤ 99999
+pub small : (value c : ℕ) → withDigit value c ≤ 999999
 unfolding withDigit
 small value c = omega arith

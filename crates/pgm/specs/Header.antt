@@ -44,9 +44,9 @@ unfoldable pub pastLine : ℕ → List ℕ → ℕ
 pastLine at [] = 0
 pastLine at (c ∷ s) = pick (isLineEnd c) (suc at) (pastLine (suc at) s)
 
--- a number with one digit more; from 99,999 on all numbers are taken for 99,999
+-- a number with one digit more; from 999,999 on all numbers are taken for 999,999
 unfoldable pub withDigit : ℕ → ℕ → ℕ
-withDigit value c = min 99999 (10 * value + (c - 48))
+withDigit value c = min 999999 (10 * value + (c - 48))
 
 -- the digits at the front of s, and the place behind them
 unfoldable pub numberFrom : ℕ → ℕ → List ℕ → Number

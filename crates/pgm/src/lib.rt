@@ -104,18 +104,18 @@ fn past_line(bytes: &[u8], at: usize) -> usize
     0
 }
 
-// One digit more. It stops at 99,999, so that no string of digits overflows.
+// One digit more. It stops at 999,999, so that no string of digits overflows.
 fn with_digit(value: u32, c: u8) -> u32
-    requires { ⌜ value ≤ 99999 ⌝ }
+    requires { ⌜ value ≤ 999999 ⌝ }
     requires { ⌜ isDigit c ≡ true ⌝ }
     ensures { λ r. ⌜ r ≡ withDigit value c ⌝ }
 {
     let more = 10 * value + (c - b'0') as u32;
-    if more < 99999 { more } else { 99999 }
+    if more < 999999 { more } else { 999999 }
 }
 
 // The digits from `at` on.
-fn number_from(bytes: &[u8], at: usize) -> Number
+pub fn number_from(bytes: &[u8], at: usize) -> Number
     ensures { λ r. ⌜ r ≡ numberFrom 0 at (drop at (now (bytes .entry))) ⌝ }
 {
     let mut value: u32 = 0;

@@ -7,7 +7,8 @@ use lib.ListN.{length}
 use Rattle.pgm.specs.declared.Header.{Header}
 use Rattle.pgm.specs.Header.{isSpace, isLineEnd, isDigit, isPassed, isInside, pastSpace, pastLine, withDigit, numberFrom, fieldAt, rasterAt, pastMagic, headerOf}
 use Rattle.square_pgm.specs.Sides.{sizeAmong, sideOf}
-use Rattle.square_pgm.specs.Text.{decimal, headerText}
+use Rattle.pgm.specs.Ascii.{decimal}
+use Rattle.square_pgm.specs.Text.{headerText}
 
 -- the header read is right, gives k back, has greys to 255, and the raster begins where the header ends
 pub record ReadBack (k : ℕ) (raster : List ℕ) : Type 0 where

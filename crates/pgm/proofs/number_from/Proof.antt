@@ -10,7 +10,7 @@ use Rattle.pgm.proofs.number_from.Statement.{statement}
 use Rattle.pgm.proofs.number_from.Tie as tie
 
 abbrev Inv-loop : tie.InvT-loop
-Inv-loop bytes at value₀ i₀ value i = (value ≤ 99999) × (numberFrom value i (drop i bytes) ≡ numberFrom 0 at (drop at bytes))
+Inv-loop bytes at value₀ i₀ value i = (value ≤ 999999) × (numberFrom value i (drop i bytes) ≡ numberFrom 0 at (drop at bytes))
 
 abbrev μ-loop : tie.MeasureT-loop
 μ-loop bytes at value₀ i₀ value i = length bytes - i

@@ -3,7 +3,8 @@ use Prim.Native.Nat.{_<_}
 use lib.ListN.{length}
 use mathlib.Core.Path.{refl}
 use Rattle.square_pgm.specs.Sides.{heldSize}
-use Rattle.square_pgm.specs.Text.{decimal, headerText}
+use Rattle.pgm.specs.Ascii.{decimal}
+use Rattle.square_pgm.specs.Text.{headerText}
 use Rattle.square_pgm.proofs.Laws.{written, no-room, not-held}
 use borrow.Author.Needs.{needs}
 use Rattle.square_pgm.proofs.write_header.Statement.{statement}
