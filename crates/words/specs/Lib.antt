@@ -1,0 +1,4 @@
+-- What the programs say.
+pub mod Line
+pub mod Said
+pub mod Cases
