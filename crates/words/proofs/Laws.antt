@@ -2,7 +2,7 @@
 use mathlib.Core.Path.{_≡_, refl, sym, ap, _∙_}
 use mathlib.Core.Bool.{Bool, true, false}
 use mathlib.Core.List.{List, [], _∷_, _++_, append-nil}
-use Prim.Native.Nat.{ℕ, zero, suc, _+_, _-_, _<_, _≤_}
+use Prim.Native.Nat.{ℕ, _+_, _-_, _<_, _≤_}
 use native.Mathlib.Omega.{arith}
 use native.Mathlib.Nat.{add-zero}
 use lib.Dec.{leb}
@@ -11,7 +11,6 @@ use lib.Seq.{take-all, take-length, drop-drop}
 use borrow.Author.Tests.{le-leb, lt-leb}
 use Rattle.paper.specs.Lists.{pick}
 use Rattle.words.specs.Line.{Line, on, _puts_}
-use Rattle.words.specs.Said.{meanings, meaning}
 
 module _ (text line : List ℕ) (at : ℕ) where
   pub no-room : length line < at + length text → on line at puts text ≡ on line at
@@ -34,19 +33,3 @@ put-nothing line = rw (add-zero (line .at), take-append-drop (line .at) (line .b
     go : (b : Bool) → pick b line line ≡ line
     go true = refl
     go false = refl
-
--- no other number has a meaning
-pub unmeant : (n : ℕ) → (n ≡ 1 → ⊥) → (n ≡ 2 → ⊥) → (n ≡ 3 → ⊥) → (n ≡ 4 → ⊥) → (n ≡ 5 → ⊥) → (n ≡ 6 → ⊥) → (n ≡ 7 → ⊥) → (n ≡ 8 → ⊥) → (n ≡ 9 → ⊥) → (n ≡ 10 → ⊥) → meaning n ≡ []
-unfolding meanings
-unmeant zero a b c d e f g h i j = refl
-unmeant (suc zero) a b c d e f g h i j = absurd (a refl)
-unmeant (suc (suc zero)) a b c d e f g h i j = absurd (b refl)
-unmeant (suc (suc (suc zero))) a b c d e f g h i j = absurd (c refl)
-unmeant (suc (suc (suc (suc zero)))) a b c d e f g h i j = absurd (d refl)
-unmeant (suc (suc (suc (suc (suc zero))))) a b c d e f g h i j = absurd (e refl)
-unmeant (suc (suc (suc (suc (suc (suc zero)))))) a b c d e f g h i j = absurd (f refl)
-unmeant (suc (suc (suc (suc (suc (suc (suc zero))))))) a b c d e f g h i j = absurd (g refl)
-unmeant (suc (suc (suc (suc (suc (suc (suc (suc zero)))))))) a b c d e f g h i j = absurd (h refl)
-unmeant (suc (suc (suc (suc (suc (suc (suc (suc (suc zero))))))))) a b c d e f g h i j = absurd (i refl)
-unmeant (suc (suc (suc (suc (suc (suc (suc (suc (suc (suc zero)))))))))) a b c d e f g h i j = absurd (j refl)
-unmeant (suc (suc (suc (suc (suc (suc (suc (suc (suc (suc (suc n))))))))))) a b c d e f g h i j = refl

@@ -1,4 +1,2 @@
--- What the programs say.
+-- A line of text.
 pub mod Line
-pub mod Said
-pub mod Cases

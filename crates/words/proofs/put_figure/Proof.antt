@@ -3,10 +3,10 @@ use Rattle.words.proofs.put_figure.Statement.{statement}
 use Rattle.words.proofs.put_figure.Tie as tie
 
 put-requires : tie.Need-put-requires
-put-requires c κs = search needs
+put-requires c κs = tt
 
 put-number-requires : tie.Need-put-number-requires
-put-number-requires c κs = search needs
+put-number-requires c κs = tt
 
 same-length : tie.Need-same-length
 same-length c = search needs

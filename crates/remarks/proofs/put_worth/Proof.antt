@@ -1,13 +1,13 @@
 use borrow.Author.Tests.{eq-eqb, ne-eqb}
 use mathlib.Core.Path.{sym, _∙_}
-use Rattle.words.specs.Said.{remark, worth}
+use Rattle.remarks.specs.Said.{remark, worth}
 use Rattle.words.proofs.Laws.{put-nothing}
 use borrow.Author.Needs.{needs}
-use Rattle.words.proofs.put_worth.Statement.{statement}
-use Rattle.words.proofs.put_worth.Tie as tie
+use Rattle.remarks.proofs.put_worth.Statement.{statement}
+use Rattle.remarks.proofs.put_worth.Tie as tie
 
 grey-limit-requires : tie.Need-grey-limit-requires
-grey-limit-requires c κs = search needs
+grey-limit-requires c κs = tt
 
 slice-aggregate-put-figure : tie.Need-slice-aggregate-put-figure
 slice-aggregate-put-figure c = search needs
@@ -16,13 +16,13 @@ cast-put-figure : tie.Need-cast-put-figure
 cast-put-figure c = search needs
 
 put-figure-requires : tie.Need-put-figure-requires
-put-figure-requires c κs = search needs
+put-figure-requires c κs = tt
 
 slice-aggregate-put : tie.Need-slice-aggregate-put
 slice-aggregate-put c = search needs
 
 put-requires : tie.Need-put-requires
-put-requires c κs = search needs
+put-requires c κs = tt
 
 same-length : tie.Need-same-length
 same-length c = search needs
@@ -36,7 +36,7 @@ slice-aggregate-put-2 : tie.Need-slice-aggregate-put-2
 slice-aggregate-put-2 c = search needs
 
 put-requires-2 : tie.Need-put-requires-2
-put-requires-2 c κs = search needs
+put-requires-2 c κs = tt
 
 same-length-2 : tie.Need-same-length-2
 same-length-2 c = search needs

@@ -1,8 +1,8 @@
 use borrow.Author.Tests.{eq-eqb, ne-eqb}
-use Rattle.words.specs.Said.{ended}
+use Rattle.remarks.specs.Said.{ended}
 use borrow.Author.Needs.{needs}
-use Rattle.words.proofs.put_ended.Statement.{statement}
-use Rattle.words.proofs.put_ended.Tie as tie
+use Rattle.remarks.proofs.put_ended.Statement.{statement}
+use Rattle.remarks.proofs.put_ended.Tie as tie
 
 returns : tie.Need-returns
 unfolding ended
@@ -13,10 +13,10 @@ slice-aggregate-put-figure : tie.Need-slice-aggregate-put-figure
 slice-aggregate-put-figure c = search needs
 
 put-figure-requires : tie.Need-put-figure-requires
-put-figure-requires c κs = search needs
+put-figure-requires c κs = tt
 
 put-meaning-requires : tie.Need-put-meaning-requires
-put-meaning-requires c κs = search needs
+put-meaning-requires c κs = tt
 
 same-length : tie.Need-same-length
 same-length c = search needs

@@ -6,8 +6,8 @@ use Prim.Native.String.{String}
 use lib.ListN.{take, replicate}
 use Rattle.pgm.specs.Ascii.{ascii, decimal}
 use Rattle.figures.specs.Figures.{greyLimit}
 use Rattle.words.specs.Line.{Line, on, _puts_}
-use Rattle.words.specs.Said.{meanings, ended, remark, worth, reportOf, refusedOf}
+use Rattle.remarks.specs.Said.{meanings, ended, remark, worth, reportOf, refusedOf}
 
 -- a line of 320 bytes ends behind the text
 abbrev says : (Line → Line) → String → Type 0

@@ -1,22 +1,22 @@
-use Rattle.words.specs.Said.{refusedOf}
+use Rattle.remarks.specs.Said.{refusedOf}
 use borrow.Author.Needs.{needs}
-use Rattle.words.proofs.refused.Statement.{statement}
-use Rattle.words.proofs.refused.Tie as tie
+use Rattle.remarks.proofs.refused.Statement.{statement}
+use Rattle.remarks.proofs.refused.Tie as tie
 
 slice-aggregate-put-figure : tie.Need-slice-aggregate-put-figure
 slice-aggregate-put-figure c = search needs
 
 put-figure-requires : tie.Need-put-figure-requires
-put-figure-requires c κs = search needs
+put-figure-requires c κs = tt
 
 put-meaning-requires : tie.Need-put-meaning-requires
-put-meaning-requires c κs = search needs
+put-meaning-requires c κs = tt
 
 slice-aggregate-put : tie.Need-slice-aggregate-put
 slice-aggregate-put c = search needs
 
 put-requires : tie.Need-put-requires
-put-requires c κs = search needs
+put-requires c κs = tt
 
 same-length : tie.Need-same-length
 same-length c = search needs
