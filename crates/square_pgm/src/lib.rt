@@ -37,17 +37,11 @@ pub fn write_header(k: u32, room: &mut [u8]) -> usize
     if room.len() < 13 {
         return 0;
     }
-    if k == 3 {
-        return bytes::copy(b"P5\n8 8\n255\n", room);
+    match k {
+        3 => bytes::copy(b"P5\n8 8\n255\n", room),
+        4 => bytes::copy(b"P5\n16 16\n255\n", room),
+        5 => bytes::copy(b"P5\n32 32\n255\n", room),
+        6 => bytes::copy(b"P5\n64 64\n255\n", room),
+        _ => 0,
     }
-    if k == 4 {
-        return bytes::copy(b"P5\n16 16\n255\n", room);
-    }
-    if k == 5 {
-        return bytes::copy(b"P5\n32 32\n255\n", room);
-    }
-    if k == 6 {
-        return bytes::copy(b"P5\n64 64\n255\n", room);
-    }
-    0
 }
