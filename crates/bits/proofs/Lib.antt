@@ -1,0 +1,4 @@
+pub mod OneBit
+pub mod Worth
+pub mod Written
+pub mod Packing

@@ -1,0 +1,35 @@
+-- How a test of the code judges a field of the definition. Assumes nothing.
+use Prim.Native.Nat.{ℕ, _≤_}
+use mathlib.Core.Path.{_≡_, refl, sym, _∙_}
+use mathlib.Core.Bool.{Bool, true, false, not}
+use mathlib.Core.List.{List}
+use native.Mathlib.Omega.{arith}
+use lib.ListN.{drop}
+use borrow.Author.Tests.{eq-eqb, le-leb, not-true, not-false}
+use Rattle.paper.specs.Sizes.{sizeIn, levelsIn, planesIn}
+use Rattle.paper.specs.Bits.{bits, allZero}
+use Rattle.paper.specs.Block.{isLabel, edition, byteAt, labelOf, countOf, payloadStart, payloadBits, payloadOf, fieldsRight}
+use Rattle.block.proofs.Blocks.{Fields, fields-split}
+
+-- t is the code's answer, b the definition's
+module _ (t b : Bool) (same : t ≡ b) where
+  pub denied : not t ≡ true → b ≡ true → ⊥
+  denied off on = let z : true ≡ false = sym on ∙ sym same ∙ not-true t off in let w : _≡_ {A = ℕ} 0 1 = cc in omega arith
+
+  pub granted : not t ≡ false → b ≡ true
+  granted on = sym same ∙ not-false t on
+
+-- one wrong field is enough
+pub refused : (block : List ℕ) → (Fields block → ⊥) → false ≡ fieldsRight payloadStart block
+refused block wrong = judge (fieldsRight payloadStart block) refl
+  where
+    judge : (b : Bool) → fieldsRight payloadStart block ≡ b → false ≡ fieldsRight payloadStart block
+    judge true h = absurd (wrong (fields-split block h))
+    judge false h = sym h
+
+-- where the other fields are right the unused bits decide
+pub unused-decide : (block : List ℕ) → byteAt block 0 ≡ edition → sizeIn (byteAt block 1) ≡ true → levelsIn (byteAt block 1) (byteAt block 2) ≡ true → planesIn (byteAt block 3) ≡ true
+    → isLabel (labelOf block) ≡ true → countOf block ≤ payloadBits payloadStart
+    → fieldsRight payloadStart block ≡ allZero (drop (countOf block) (bits (payloadOf payloadStart block)))
+unfolding fieldsRight
+unused-decide block e s l p c m = rw (eq-eqb _ _ e, s, l, p, c, le-leb (countOf block) 3936 m)

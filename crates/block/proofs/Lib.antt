@@ -1,0 +1,4 @@
+-- Laws of a block: how its parts come into place, and that a block that was made reads back and passes.
+pub mod Copies
+pub mod Blocks
+pub mod Judging

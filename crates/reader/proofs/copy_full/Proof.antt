@@ -1,0 +1,67 @@
+use Rattle.reader.proofs.Payload.{payload-more}
+use Rattle.records.specs.Parts.{none-joined}
+use Rattle.paper.specs.Record.{blockAt}
+use Rattle.paper.specs.Block.{payloadOf, payloadStart}
+use Rattle.paper.specs.Lists.{joined}
+use lib.ListN.{length, drop}
+use native.Mathlib.Omega.{arith}
+use mathlib.Core.List.{_++_}
+use mathlib.Core.Path.{_≡_, refl, ap, _∙_}
+use Prim.Native.Nat.{ℕ, _≤_, _-_, _*_}
+use borrow.Author.Needs.{needs}
+use Rattle.reader.proofs.copy_full.Statement.{statement}
+use Rattle.reader.proofs.copy_full.Tie as tie
+
+abbrev Inv-loop : tie.InvT-loop
+Inv-loop room₀ blocks full i₀ room i = (i ≤ full) × (length room ≡ length room₀) × (room ≡ joined i (λ j. payloadOf payloadStart (blockAt blocks j)) ++ drop (492 * i) room₀)
+
+abbrev μ-loop : tie.MeasureT-loop
+μ-loop room₀ blocks full i₀ room i = full - i
+
+loop-holds : tie.Need-loop-holds Inv-loop μ-loop
+loop-holds c =
+    let args = c .before .before .args in
+    (omega arith, refl, none-joined 492 (λ j. payloadOf payloadStart (blockAt (args .blocks .now) j)) (args .room .now))
+
+put-payload-requires : tie.Need-put-payload-requires Inv-loop μ-loop
+put-payload-requires c κs =
+    omega arith
+
+add-i : tie.Need-add-i Inv-loop μ-loop
+add-i c = search needs
+
+loop-less : tie.Need-loop-less Inv-loop μ-loop
+loop-less c =
+    omega arith
+
+loop-again : tie.Need-loop-again Inv-loop μ-loop
+loop-again c =
+    let args = c .before .before .before .before .before .before .before .before .args in
+    let at = c .before .before .before .before .before .loop in
+    let put = c .before .before .put-payload in
+    (omega arith, put .kept .0 ∙ at .inv .1, put .ensures ∙ payload-more (args .blocks .now) (args .room .now) (at .i) (at .room) (omega arith) (at .inv .2))
+
+same-length : tie.Need-same-length Inv-loop μ-loop
+same-length c =
+    c .before .loop .inv .1
+
+returns : tie.Need-returns Inv-loop μ-loop
+returns c =
+    let args = c .before .before .before .before .args in
+    let at = c .before .loop in
+    let e : at .i ≡ args .full = omega arith in
+    at .inv .2 ∙ ap (λ (i : ℕ). joined i (λ j. payloadOf payloadStart (blockAt (args .blocks .now) j)) ++ drop (492 * i) (args .room .now)) e
+
+pub copy-full-spec : {M : Type 1} → statement M
+copy-full-spec =
+    tie.close
+    (tie.spec
+    Inv-loop
+    μ-loop
+    loop-holds
+    put-payload-requires
+    add-i
+    loop-less
+    loop-again
+    same-length
+    returns)

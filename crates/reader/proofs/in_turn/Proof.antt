@@ -1,0 +1,75 @@
+use borrow.Author.Tests.{not-true, not-false}
+use Rattle.reader.proofs.Turn.{first-fails, second-fails, third-decides}
+use borrow.Author.Tests.{eq-eqb, ne-eqb}
+use mathlib.Core.Path.{sym, _∙_}
+use borrow.Author.Needs.{needs}
+use Rattle.reader.proofs.in_turn.Statement.{statement}
+use Rattle.reader.proofs.in_turn.Tie as tie
+
+pair-at-requires : tie.Need-pair-at-requires
+pair-at-requires c κs = search needs
+
+returns : tie.Need-returns
+returns c =
+    first-fails _ _ (ne-eqb _ _ (λ e. c .if1 .taken (c .before .pair-at .ensures ∙ e)))
+
+sub-same-bytes : tie.Need-sub-same-bytes
+sub-same-bytes c = search needs
+
+part-same-bytes-start : tie.Need-part-same-bytes-start
+part-same-bytes-start c = search needs
+
+part-same-bytes-end : tie.Need-part-same-bytes-end
+part-same-bytes-end c = search needs
+
+sub-same-bytes-2 : tie.Need-sub-same-bytes-2
+sub-same-bytes-2 c = search needs
+
+part-same-bytes-start-2 : tie.Need-part-same-bytes-start-2
+part-same-bytes-start-2 c = search needs
+
+part-same-bytes-end-2 : tie.Need-part-same-bytes-end-2
+part-same-bytes-end-2 c = search needs
+
+same-bytes-requires : tie.Need-same-bytes-requires
+same-bytes-requires c κs = search needs
+
+returns-2 : tie.Need-returns-2
+returns-2 c =
+    second-fails _ (eq-eqb _ _ (sym (c .before .before .before .before .before .pair-at .ensures) ∙ c .before .before .before .before .if1 .left)) (sym (c .before .same-bytes .ensures) ∙ not-true _ (c .if2 .taken))
+
+sub-same-bytes-3 : tie.Need-sub-same-bytes-3
+sub-same-bytes-3 c = search needs
+
+part-same-bytes-start-3 : tie.Need-part-same-bytes-start-3
+part-same-bytes-start-3 c = search needs
+
+part-same-bytes-end-3 : tie.Need-part-same-bytes-end-3
+part-same-bytes-end-3 c = search needs
+
+same-bytes-requires-2 : tie.Need-same-bytes-requires-2
+same-bytes-requires-2 c κs = search needs
+
+returns-3 : tie.Need-returns-3
+returns-3 c =
+    c .same-bytes2 .ensures ∙ third-decides _ (eq-eqb _ _ (sym (c .before .before .before .before .before .before .before .pair-at .ensures) ∙ c .before .before .before .before .before .before .if1 .left)) (sym (c .before .before .before .same-bytes .ensures) ∙ not-false _ (c .before .before .if2 .left))
+
+pub in-turn-spec : {M : Type 1} → statement M
+in-turn-spec =
+    tie.close
+    (tie.spec
+    pair-at-requires
+    returns
+    sub-same-bytes
+    part-same-bytes-start
+    part-same-bytes-end
+    sub-same-bytes-2
+    part-same-bytes-start-2
+    part-same-bytes-end-2
+    same-bytes-requires
+    returns-2
+    sub-same-bytes-3
+    part-same-bytes-start-3
+    part-same-bytes-end-3
+    same-bytes-requires-2
+    returns-3)

@@ -1,0 +1,77 @@
+use Rattle.reader.proofs.Turn.{run-start, run-fails, run-short, run-more, run-ends}
+use Rattle.paper.specs.Record.{runOf, runFrom}
+use lib.ListN.{length}
+use native.Mathlib.Omega.{arith}
+use mathlib.Core.Path.{_≡_, _∙_}
+use Prim.Native.Nat.{_≤_, _-_, _/_}
+use borrow.Author.Needs.{needs}
+use Rattle.reader.proofs.longest_run.Statement.{statement}
+use Rattle.reader.proofs.longest_run.Tie as tie
+
+abbrev Inv-loop : tie.InvT-loop
+Inv-loop blocks label whole i₀ i = (i ≤ whole) × (runOf blocks label ≡ runFrom blocks label (whole - i) i)
+
+abbrev μ-loop : tie.MeasureT-loop
+μ-loop blocks label whole i₀ i = whole - i
+
+loop-holds : tie.Need-loop-holds Inv-loop μ-loop
+loop-holds c =
+    let args = c .before .before .args in
+    (omega arith, run-start (args .blocks .now) (args .label .now))
+
+turn-refusal-requires : tie.Need-turn-refusal-requires Inv-loop μ-loop
+turn-refusal-requires c κs = search needs
+
+returns : tie.Need-returns Inv-loop μ-loop
+returns c =
+    let args = c .before .before .before .before .before .before .args in
+    let at = c .before .before .before .loop in
+    at .inv .1 ∙ run-fails (args .blocks .now) (args .label .now) (length (args .blocks .now) / 512) (at .i) (omega arith) (c .before .turn-refusal .result) (c .before .turn-refusal .ensures) (omega arith)
+
+count-at-requires : tie.Need-count-at-requires Inv-loop μ-loop
+count-at-requires c κs = search needs
+
+add-t9 : tie.Need-add-t9 Inv-loop μ-loop
+add-t9 c = search needs
+
+returns-2 : tie.Need-returns-2 Inv-loop μ-loop
+returns-2 c =
+    let args = c .before .before .before .before .before .before .before .before .args in
+    let at = c .before .before .before .before .before .loop in
+    at .inv .1 ∙ run-short (args .blocks .now) (args .label .now) (length (args .blocks .now) / 512) (at .i) (omega arith) (c .before .before .before .turn-refusal .result) (c .before .count-at .result) (c .before .before .before .turn-refusal .ensures) (omega arith) (c .before .count-at .ensures) (c .if2 .taken)
+
+add-i : tie.Need-add-i Inv-loop μ-loop
+add-i c = search needs
+
+loop-less : tie.Need-loop-less Inv-loop μ-loop
+loop-less c =
+    omega arith
+
+loop-again : tie.Need-loop-again Inv-loop μ-loop
+loop-again c =
+    let args = c .before .before .before .before .before .before .before .before .args in
+    let at = c .before .before .before .before .before .loop in
+    (omega arith, at .inv .1 ∙ run-more (args .blocks .now) (args .label .now) (length (args .blocks .now) / 512) (at .i) (omega arith) (c .before .before .before .turn-refusal .result) (c .before .count-at .result) (c .before .before .before .turn-refusal .ensures) (omega arith) (c .before .count-at .ensures) (c .if2 .left))
+
+returns-3 : tie.Need-returns-3 Inv-loop μ-loop
+returns-3 c =
+    let args = c .before .before .before .before .args in
+    let at = c .before .loop in
+    at .inv .1 ∙ run-ends (args .blocks .now) (args .label .now) (length (args .blocks .now) / 512) (at .i) (omega arith)
+
+pub longest-run-spec : {M : Type 1} → statement M
+longest-run-spec =
+    tie.close
+    (tie.spec
+    Inv-loop
+    μ-loop
+    loop-holds
+    turn-refusal-requires
+    returns
+    count-at-requires
+    add-t9
+    returns-2
+    add-i
+    loop-less
+    loop-again
+    returns-3)

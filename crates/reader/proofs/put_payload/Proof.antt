@@ -1,0 +1,87 @@
+use Rattle.reader.proofs.Payload.{payload-put}
+use borrow.Author.Needs.{needs}
+use Rattle.reader.proofs.put_payload.Statement.{statement}
+use Rattle.reader.proofs.put_payload.Tie as tie
+
+mul-from : tie.Need-mul-from
+mul-from c = search needs
+
+add-to : tie.Need-add-to
+add-to c = search needs
+
+sub-block : tie.Need-sub-block
+sub-block c = search needs
+
+part-block-start : tie.Need-part-block-start
+part-block-start c = search needs
+
+part-block-end : tie.Need-part-block-end
+part-block-end c = search needs
+
+sub-payload : tie.Need-sub-payload
+sub-payload c = search needs
+
+part-payload-start : tie.Need-part-payload-start
+part-payload-start c = search needs
+
+part-payload-end : tie.Need-part-payload-end
+part-payload-end c = search needs
+
+mul-start : tie.Need-mul-start
+mul-start c = search needs
+
+add-end : tie.Need-add-end
+add-end c = search needs
+
+sub-copy-in : tie.Need-sub-copy-in
+sub-copy-in c = search needs
+
+part-copy-in-start : tie.Need-part-copy-in-start
+part-copy-in-start c = search needs
+
+part-copy-in-end : tie.Need-part-copy-in-end
+part-copy-in-end c = search needs
+
+sub-copy-in-2 : tie.Need-sub-copy-in-2
+sub-copy-in-2 c = search needs
+
+part-copy-in-start-2 : tie.Need-part-copy-in-start-2
+part-copy-in-start-2 c = search needs
+
+part-copy-in-end-2 : tie.Need-part-copy-in-end-2
+part-copy-in-end-2 c = search needs
+
+copy-in-requires : tie.Need-copy-in-requires
+copy-in-requires c κs = search needs
+
+same-length : tie.Need-same-length
+same-length c = search needs
+
+returns : tie.Need-returns
+returns c =
+    let S = c .before .before .before .before .before .before .before .before .before in
+    payload-put (S .args .blocks .now) (S .args .room .now) (c .before .before .copy-in .last .0) (S .args .i) (S .args .n) (S .pre .0) (S .pre .1 .0) (S .pre .1 .1) (c .before .before .copy-in .ensures)
+
+pub put-payload-spec : {M : Type 1} → statement M
+put-payload-spec =
+    tie.close
+    (tie.spec
+    mul-from
+    add-to
+    sub-block
+    part-block-start
+    part-block-end
+    sub-payload
+    part-payload-start
+    part-payload-end
+    mul-start
+    add-end
+    sub-copy-in
+    part-copy-in-start
+    part-copy-in-end
+    sub-copy-in-2
+    part-copy-in-start-2
+    part-copy-in-end-2
+    copy-in-requires
+    same-length
+    returns)

@@ -1,0 +1,140 @@
+// What a reader keeps of lent blocks: a pass that only looks, and a pass that copies the kept payload.
+ghost use mathlib.Core.Path.{_≡_};
+ghost use mathlib.Core.List.{_++_};
+ghost use mathlib.Core.Bool.{_&&_};
+ghost use Prim.Native.Nat.{_+_, _*_, _<_, _≤_};
+ghost use lib.Dec.{eqb};
+ghost use lib.ListN.{length, take, drop};
+ghost use Rattle.paper.specs.Lists.{joined, over};
+ghost use Rattle.paper.specs.Block.{sameBytes, labelOf, numberOf, countOf, payloadOf, payloadStart};
+ghost use Rattle.paper.specs.Record.{blockAt, wholeBlocks, turnRefusal, runOf, bitsKept, payloadKept};
+
+// Numbered in its turn, with bytes 0 to 11 like block 0 and the label expected.
+fn in_turn(block: &[u8], first: &[u8], label: &[u8], i: usize) -> bool
+    requires { ⌜ length (now block) ≡ 512 ⌝ }
+    requires { ⌜ length (now first) ≡ 512 ⌝ }
+    ensures { λ r. ⌜ r ≡ (eqb (numberOf (now (block .entry))) i && sameBytes (take 12 (now (block .entry))) (take 12 (now (first .entry))) && sameBytes (labelOf (now (block .entry))) (now (label .entry))) ⌝ }
+{
+    if fields::pair_at(block, 12) != i {
+        return false;
+    }
+    if !fields::same_bytes(&block[0..12], &first[0..12]) {
+        return false;
+    }
+    fields::same_bytes(&block[4..12], label)
+}
+
+// Why block i can't be kept: 8, 9 or 10; 0 if it can.
+pub fn turn_refusal(blocks: &[u8], label: &[u8], i: usize) -> u32
+    requires { ⌜ 512 * i + 512 ≤ length (now blocks) ⌝ }
+    ensures { λ r. ⌜ r ≡ turnRefusal (now (blocks .entry)) (now (label .entry)) i ⌝ }
+{
+    let start = 512 * i;
+    let end = start + 512;
+    let block = &blocks[start..end];
+    let refusal = block::check(block);
+    if refusal > 0 {
+        return refusal;
+    }
+    if in_turn(block, &blocks[0..512], label, i) {
+        0
+    } else {
+        10
+    }
+}
+
+// The payload bits in block i.
+fn count_at(blocks: &[u8], i: usize) -> usize
+    requires { ⌜ 512 * i + 512 ≤ length (now blocks) ⌝ }
+    ensures { λ r. ⌜ r ≡ countOf (blockAt (now (blocks .entry)) i) ⌝ }
+{
+    let start = 512 * i;
+    let end = start + 512;
+    fields::pair_at(&blocks[start..end], 14)
+}
+
+pub struct Run {
+    pub kept: usize,
+    pub ended: u32,
+}
+
+// The longest run. Nothing is written before it is known.
+pub fn longest_run(blocks: &[u8], label: &[u8]) -> Run
+    ensures { λ r. ⌜ runOf (now (blocks .entry)) (now (label .entry)) ≡ record { kept = r .kept; ended = r .ended } ⌝ }
+{
+    let whole = blocks.len() / 512;
+    let mut i = 0;
+    while i < whole {
+        let refusal = turn_refusal(blocks, label, i);
+        if refusal > 0 {
+            return Run {
+                kept: i,
+                ended: refusal,
+            };
+        }
+        if count_at(blocks, i) != 3936 {
+            return Run {
+                kept: i + 1,
+                ended: 0,
+            };
+        }
+        i += 1;
+    }
+    Run { kept: i, ended: 0 }
+}
+
+// The bits that kept blocks hold.
+pub fn bits_kept(blocks: &[u8], kept: usize) -> usize
+    requires { ⌜ 0 < kept ⌝ }
+    requires { ⌜ kept ≤ 65536 ⌝ }
+    requires { ⌜ kept ≤ wholeBlocks (now blocks) ⌝ }
+    ensures { λ r. ⌜ r ≡ bitsKept (now (blocks .entry)) kept ⌝ }
+{
+    let last = kept - 1;
+    3936 * last + count_at(blocks, last)
+}
+
+// The first n payload bytes of block i, in their place; what lies before and behind is untouched.
+fn put_payload(room: &mut [u8], blocks: &[u8], i: usize, n: usize)
+    requires { ⌜ 512 * i + 512 ≤ length (now blocks) ⌝ }
+    requires { ⌜ 492 * i + n ≤ length (now room) ⌝ }
+    requires { ⌜ n ≤ 492 ⌝ }
+    ensures { λ _. ⌜ now (room .exit) ≡ take (492 * i) (now (room .entry)) ++ (take n (payloadOf payloadStart (blockAt (now (blocks .entry)) i)) ++ drop (492 * i + n) (now (room .entry))) ⌝ }
+{
+    let from = 512 * i;
+    let to = from + 512;
+    let block = &blocks[from..to];
+    let payload = &block[16..508];
+    let start = 492 * i;
+    let end = start + n;
+    block::copy_in(&mut room[start..end], &payload[0..n]);
+}
+
+// The payload of full blocks, one behind the other.
+fn copy_full(room: &mut [u8], blocks: &[u8], full: usize)
+    requires { ⌜ full ≤ wholeBlocks (now blocks) ⌝ }
+    requires { ⌜ 492 * full ≤ length (now room) ⌝ }
+    ensures { λ _. ⌜ now (room .exit) ≡ joined full (λ i. payloadOf payloadStart (blockAt (now (blocks .entry)) i)) ++ drop (492 * full) (now (room .entry)) ⌝ }
+{
+    let mut i = 0;
+    while i < full {
+        put_payload(room, blocks, i, 492);
+        i += 1;
+    }
+}
+
+// The kept payload, in its used bytes, at the front of the room.
+pub fn copy_kept(room: &mut [u8], blocks: &[u8], kept: usize, bits: usize)
+    requires { ⌜ 0 < kept ⌝ }
+    requires { ⌜ kept ≤ wholeBlocks (now blocks) ⌝ }
+    requires { ⌜ 492 * wholeBlocks (now blocks) ≤ length (now room) ⌝ }
+    requires { ⌜ bits ≡ bitsKept (now blocks) kept ⌝ }
+    requires { ⌜ bits ≤ 3936 * kept ⌝ }
+    requires { ⌜ kept ≤ 65536 ⌝ }
+    ensures { λ _. ⌜ now (room .exit) ≡ over (payloadKept (now (blocks .entry)) kept) (now (room .entry)) ⌝ }
+{
+    let last = kept - 1;
+    let used = (bits - 3936 * last + 7) / 8;
+    copy_full(room, blocks, last);
+    put_payload(room, blocks, last, used);
+}

@@ -1,0 +1,46 @@
+-- Rows of the refusal table, judged one after the other.
+use mathlib.Core.Path.{_≡_, refl, sym, ap}
+use mathlib.Core.Bool.{Bool, true, false, _&&_}
+use Prim.Native.Nat.{ℕ, suc, _*_, _/_, _%_, _<_}
+use native.Mathlib.Omega.{arith}
+use lib.Dec.{leb, eqb}
+use borrow.Author.Tests.{eqb-true, eqb-false, le-leb, lt-leb}
+use Rattle.paper.specs.Sizes.{unless}
+
+pub row-refused : (r later : ℕ) {b : Bool} → b ≡ false → r ≡ unless r b later
+row-refused r later e = ap (λ b. unless r b later) (sym e)
+
+pub row-left : (r later : ℕ) {b : Bool} → b ≡ true → later ≡ unless r b later
+row-left r later e = ap (λ b. unless r b later) (sym e)
+
+-- b bits and whole bytes
+pub lends-exact : (b bytes : ℕ) → b / 8 ≡ bytes → eqb (b % 8) 0 ≡ leb b (8 * bytes)
+lends-exact b bytes e = go (eqb (b % 8) 0) refl
+  where
+    more : (b bytes : ℕ) → b / 8 ≡ bytes → (b % 8 ≡ 0 → ⊥) → 8 * bytes < b
+    more b bytes e f = omega arith
+
+    go : (t : Bool) → eqb (b % 8) 0 ≡ t → t ≡ leb b (8 * bytes)
+    go true t = sym (le-leb b (8 * bytes) (omega (arith, eqb-true (b % 8) 0 t)))
+    go false t = sym (lt-leb b (8 * bytes) (more b bytes e (eqb-false (b % 8) 0 t)))
+
+-- two rows of which the first has two conditions, before whatever the later rows say
+pub two-rows : (r q : ℕ) (a b : Bool) (later : ℕ) → unless (suc r) a (unless (suc q) b 0) ≡ 0 → unless (suc r) a (unless (suc q) b later) ≡ later
+two-rows r q true true later e = refl
+two-rows r q true false later e = absurd (omega arith)
+two-rows r q false b later e = absurd (omega arith)
+
+pub rows-stand : (r q : ℕ) (a b : Bool) (later : ℕ) → 0 < unless (suc r) a (unless (suc q) b 0) → unless (suc r) a (unless (suc q) b later) ≡ unless (suc r) a (unless (suc q) b 0)
+rows-stand r q true true later h = absurd (omega arith)
+rows-stand r q true false later h = refl
+rows-stand r q false b later h = refl
+
+-- a row with two conditions
+pub first-and : {a : Bool} (b : Bool) → a ≡ false → (a && b) ≡ false
+first-and b e = ap (λ a. a && b) e
+
+pub second-and : {a b : Bool} → a ≡ true → b ≡ false → (a && b) ≡ false
+second-and e f = λ t. e t && f t
+
+pub both-and : {a b : Bool} → a ≡ true → b ≡ true → (a && b) ≡ true
+both-and e f = λ t. e t && f t

@@ -1,0 +1,48 @@
+use Rattle.paper.specs.Sizes.{mostBits}
+use Rattle.records.specs.BothJobs.{most-bits}
+use Rattle.reader.proofs.Turn.{first-fails, second-fails, third-decides}
+use borrow.Author.Tests.{le-leb, lt-leb, not-true, not-false}
+use lib.Dec.{leb}
+use native.Mathlib.Omega.{arith}
+use mathlib.Core.Path.{sym, ap, _∙_}
+use Prim.Native.Nat.{ℕ, _*_}
+use borrow.Author.Needs.{needs}
+use Rattle.record.proofs.fits.Statement.{statement}
+use Rattle.record.proofs.fits.Tie as tie
+
+lends-requires : tie.Need-lends-requires
+lends-requires c κs = search needs
+
+returns : tie.Need-returns
+returns c =
+    first-fails _ _ (sym (c .before .lends .ensures) ∙ not-true _ (c .if1 .taken))
+
+most-bits-requires : tie.Need-most-bits-requires
+most-bits-requires c κs = search needs
+
+returns-2 : tie.Need-returns-2
+returns-2 c =
+    second-fails _ (sym (c .before .before .before .lends .ensures) ∙ not-false _ (c .before .before .if1 .left)) (lt-leb (c .before .before .before .before .args .b) (mostBits (c .before .before .before .before .args .k) (c .before .before .before .before .args .n)) (omega arith))
+
+blocks-for-requires : tie.Need-blocks-for-requires
+blocks-for-requires c κs =
+    omega (arith, most-bits (c .before .before .before .before .args .k) (c .before .before .before .before .args .n) (c .before .before .before .before .pre .0) (c .before .before .before .before .pre .1))
+
+mul-result : tie.Need-mul-result
+mul-result c = search needs
+
+returns-3 : tie.Need-returns-3
+returns-3 c =
+    ap (λ (j : ℕ). leb (512 * j) (c .before .before .before .before .before .args .room)) (c .blocks-for .ensures) ∙ third-decides _ (sym (c .before .before .before .before .lends .ensures) ∙ not-false _ (c .before .before .before .if1 .left)) (le-leb (c .before .before .before .before .before .args .b) (mostBits (c .before .before .before .before .before .args .k) (c .before .before .before .before .before .args .n)) (omega arith))
+
+pub fits-spec : {M : Type 1} → statement M
+fits-spec =
+    tie.close
+    (tie.spec
+    lends-requires
+    returns
+    most-bits-requires
+    returns-2
+    blocks-for-requires
+    mul-result
+    returns-3)

@@ -1,0 +1,110 @@
+-- What the reader keeps, of any bytes at all: the longest run of blocks that pass, all full but possibly the last.
+use mathlib.Core.Path.{_≡_, refl, sym, _∙_, subst}
+use mathlib.Core.Bool.{Bool, true, false}
+use mathlib.Core.List.{List}
+use Prim.Native.Nat.{ℕ, zero, suc, _+_, _<_, _≤_}
+use native.Mathlib.Omega.{arith}
+use native.Mathlib.Decide.{decLt}
+use Rattle.paper.specs.Record.{turnRefusal, isFull, Run, runFrom}
+
+-- of the blocks from i on the last kept one, if there is one, is full
+abbrev pub LastFull : List ℕ → ℕ → ℕ → Type 0
+LastFull s i kept = (j : ℕ) → i ≤ j → suc j ≡ kept → isFull s j ≡ true
+
+-- a run from block i on, where `left` whole blocks are left: what it keeps, and why it ends
+pub record Longest (s label : List ℕ) (left i : ℕ) (run : Run) : Type 0 where
+  pub from : i ≤ run .kept
+  pub to : run .kept ≤ i + left
+  -- nothing is kept of a block that fails, and a short block is kept only as the last
+  pub passes : (j : ℕ) → i ≤ j → j < run .kept → turnRefusal s label j ≡ 0
+  pub full : (j : ℕ) → i ≤ j → suc j < run .kept → isFull s j ≡ true
+  -- a whole block is left out behind a full one only if it fails, and its number is given
+  pub next : run .kept < i + left → LastFull s i (run .kept) → turnRefusal s label (run .kept) ≡ run .ended
+  pub fails : run .kept < i + left → LastFull s i (run .kept) → run .ended ≡ 0 → ⊥
+  -- 0 if no block ended the run or if a short block ended it
+  pub none : run .kept ≡ i + left → run .ended ≡ 0
+  pub short : (j : ℕ) → i ≤ j → suc j ≡ run .kept → isFull s j ≡ false → run .ended ≡ 0
+
+module _ (s label : List ℕ) where
+  below : {i j : ℕ} → i ≤ j → j < i → ⊥
+  below h k = omega arith
+
+  -- block i, or one behind it
+  at-or-behind : (P : ℕ → Type 0) {i : ℕ} → P i → (j : ℕ) → i ≤ j → (suc i ≤ j → P j) → P j
+  at-or-behind P {i} p j h f = elim (decLt i j) [ yes k ↦ f k | no k ↦ let e : i ≡ j = omega arith in subst P e p ]
+
+  never : {A : Type 0} {b : Bool} → b ≡ true → b ≡ false → A
+  never p q = let z : _≡_ {A = ℕ} 0 1 = cc in absurd (omega arith)
+
+  -- a block that passes and is full goes before a run
+  behind : (left i : ℕ) (run : Run) → turnRefusal s label i ≡ 0 → isFull s i ≡ true → Longest s label left (suc i) run → Longest s label (suc left) i run
+  behind left i run e f g = record {
+    from = omega (arith, g .from);
+    to = omega (arith, g .to);
+    passes = λ j h k. at-or-behind (λ j. turnRefusal s label j ≡ 0) e j h (λ m. g .passes j m k);
+    full = λ j h k. at-or-behind (λ j. isFull s j ≡ true) f j h (λ m. g .full j m k);
+    next = λ h a. g .next (omega arith) (λ j m k. a j (omega arith) k);
+    fails = λ h a. g .fails (omega arith) (λ j m k. a j (omega arith) k);
+    none = λ h. g .none (omega arith);
+    short = λ j h k. at-or-behind (λ j. isFull s j ≡ false → run .ended ≡ 0) (never f) j h (λ m. g .short j m k);
+  }
+
+  -- a short block ends the run
+  stops : (left i : ℕ) → turnRefusal s label i ≡ 0 → isFull s i ≡ false → Longest s label (suc left) i (record { kept = suc i; ended = 0 })
+  stops left i e f = record {
+    from = omega arith;
+    to = omega arith;
+    passes = λ j h k. at-or-behind (λ j. turnRefusal s label j ≡ 0) e j h (λ m. absurd (below m k));
+    full = λ j h k. absurd (below h (omega arith));
+    next = λ h a. never (a i (omega arith) refl) f;
+    fails = λ h a. never (a i (omega arith) refl) f;
+    none = λ h. refl;
+    short = λ j h k m. refl;
+  }
+
+  -- a block that fails is not in it, and gives its number
+  refuses : (left i r : ℕ) → turnRefusal s label i ≡ suc r → Longest s label (suc left) i (record { kept = i; ended = suc r })
+  refuses left i r e = record {
+    from = omega arith;
+    to = omega arith;
+    passes = λ j h k. absurd (below h k);
+    full = λ j h k. absurd (below h (omega arith));
+    next = λ h a. e;
+    fails = λ h a m. omega arith;
+    none = λ h. absurd (below {i = i + 1} {j = i} (omega arith) (omega arith));
+    short = λ j h k m. absurd (below h (omega arith));
+  }
+
+  pub longest : (left i : ℕ) → Longest s label left i (runFrom s label left i)
+  unfolding runFrom
+  longest zero i = record {
+    from = omega arith;
+    to = omega arith;
+    passes = λ j h k. absurd (below h k);
+    full = λ j h k. absurd (below h (omega arith));
+    next = λ h a. absurd (below {i = i} {j = i} (omega arith) (omega arith));
+    fails = λ h a m. absurd (below {i = i} {j = i} (omega arith) (omega arith));
+    none = λ e. refl;
+    short = λ j h k e. refl;
+  }
+  longest (suc left) i = go (turnRefusal s label i) refl (isFull s i) refl (longest left (suc i))
+    where
+      go : (r : ℕ) → turnRefusal s label i ≡ r → (f : Bool) → isFull s i ≡ f → Longest s label left (suc i) (runFrom s label left (suc i))
+          → Longest s label (suc left) i (elim r [
+            | zero ↦ elim f [ true ↦ runFrom s label left (suc i) | false ↦ record { kept = suc i; ended = 0 } ]
+            | suc r ↦ record { kept = i; ended = suc r }
+          ])
+      go zero e true f g = behind left i (runFrom s label left (suc i)) e f g
+      go zero e false f g = stops left i e f
+      go (suc r) e f′ f g = refuses left i r e
+
+  -- where every block passes, and each but the last is full, all are kept
+  pub all-kept : (left i : ℕ) → ((j : ℕ) → j < i + left → turnRefusal s label j ≡ 0) → ((j : ℕ) → suc j < i + left → isFull s j ≡ true) → runFrom s label left i ≡ record { kept = i + left; ended = 0 }
+  all-kept left i pass full =
+      let g = longest left i in
+      let run = runFrom s label left i in
+      let e : run .kept ≡ i + left = elim (decLt (run .kept) (i + left)) [
+        | yes h ↦ let a : LastFull s i (run .kept) = λ j m k. full j (omega arith) in absurd (g .fails h a (sym (g .next h a) ∙ pass (run .kept) h))
+        | no h ↦ omega (arith, g .to)
+      ] in
+      λ t. record { kept = e t; ended = g .none e t }

@@ -1,0 +1,27 @@
+use Rattle.writer.proofs.Blocks.{block-is}
+use borrow.Author.Needs.{needs}
+use Rattle.writer.proofs.block_of.Statement.{statement}
+use Rattle.writer.proofs.block_of.Tie as tie
+
+payload-requires : tie.Need-payload-requires
+payload-requires c κs = search needs
+
+count-in-requires : tie.Need-count-in-requires
+count-in-requires c κs = search needs
+
+slice-aggregate-made : tie.Need-slice-aggregate-made
+slice-aggregate-made c = search needs
+
+made-requires : tie.Need-made-requires
+made-requires c κs = search needs
+
+returns : tie.Need-returns
+returns c =
+    let S = c .before .before .before .before .before .before in
+    let args = S .args in
+    block-is (args .k) (args .levels) (args .n) (args .label .now) (args .bytes .now) (args .b) (args .i) (c .before .before .count-in .result) (c .before .before .before .payload .result) (c .made .result) (S .pre .1 .0) (c .before .before .count-in .ensures) (c .before .before .before .payload .ensures) (c .made .ensures)
+
+pub block-of-spec : {M : Type 1} → statement M
+block-of-spec =
+    tie.close
+    (tie.spec payload-requires count-in-requires slice-aggregate-made made-requires returns)

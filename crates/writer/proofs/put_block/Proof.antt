@@ -1,0 +1,27 @@
+use Rattle.block.proofs.Copies.{over-whole}
+use native.Mathlib.Omega.{arith}
+use mathlib.Core.Path.{_∙_}
+use borrow.Author.Needs.{needs}
+use Rattle.writer.proofs.put_block.Statement.{statement}
+use Rattle.writer.proofs.put_block.Tie as tie
+
+block-of-requires : tie.Need-block-of-requires
+block-of-requires c κs = search needs
+
+slice-aggregate-copy-in : tie.Need-slice-aggregate-copy-in
+slice-aggregate-copy-in c = search needs
+
+copy-in-requires : tie.Need-copy-in-requires
+copy-in-requires c κs = search needs
+
+same-length : tie.Need-same-length
+same-length c = search needs
+
+returns : tie.Need-returns
+returns c =
+    c .before .before .copy-in .ensures ∙ over-whole (c .before .before .before .before .before .block-of .result) (c .before .before .before .before .before .before .before .before .before .args .place .now) (omega arith) ∙ c .before .before .before .before .before .block-of .ensures
+
+pub put-block-spec : {M : Type 1} → statement M
+put-block-spec =
+    tie.close
+    (tie.spec block-of-requires slice-aggregate-copy-in copy-in-requires same-length returns)
