@@ -1,8 +1,8 @@
 -- One bit read, and one bit in a byte as the code makes it.
 use mathlib.Core.Path.{_≡_, refl, sym, ap, _∙_}
 use mathlib.Core.Bool.{Bool, true, false}
-use mathlib.Core.Option.{Option, none, some}
-use mathlib.Core.List.{List, [], _∷_, _++_}
+use mathlib.Core.Option.{none, some}
+use mathlib.Core.List.{List, [], _∷_}
 use Prim.Native.Nat.{ℕ, zero, suc, _+_, _*_, _-_, _/_, _%_, _^_, _<_, _≤_}
 use native.Mathlib.Omega.{arith}
 use native.Mathlib.Numerals.{add-one}
@@ -11,9 +11,9 @@ use lib.ListN.{length, take, drop, getD, length-take, drop-of-length-le}
 use lib.Seq.{drop-cons, getD-take}
 use borrow.Author.Tests.{lt-ltb, le-ltb}
 use Rattle.paper.specs.Lists.{pick}
-use Rattle.paper.specs.Walk.{Tape, bitOf, worth, nextBit}
-use Rattle.paper.specs.Bits.{byteBits, bits}
-use Rattle.bits.specs.Bits.{kept, withBit, tapeOf, heard, ReadBit}
+use Rattle.paper.specs.Walk.{bitOf, worth, nextBit}
+use Rattle.paper.specs.Bits.{bits}
+use Rattle.bits.specs.Bits.{kept, withBit, tapeOf, ReadBit}
 
 pub bits-length : (s : List ℕ) → length (bits s) ≡ 8 * length s
 unfolding bits

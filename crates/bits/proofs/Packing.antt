@@ -1,12 +1,12 @@
 -- Bytes and their bits: there and back, cut at whole bytes, and cut at any bit.
 use mathlib.Core.Path.{_≡_, refl, sym, ap, _∙_}
-use mathlib.Core.Bool.{Bool, true, false}
+use mathlib.Core.Bool.{Bool, false}
 use mathlib.Core.List.{List, [], _∷_, _++_, append-assoc}
 use mathlib.Core.Logic.{_⊎_, inl, inr}
 use Prim.Native.Nat.{ℕ, zero, suc, _+_, _*_, _-_, _/_, _%_, _^_, _<_, _≤_}
 use native.Mathlib.Omega.{arith}
-use lib.ListN.{length, take, drop, getD, replicate, length-append, length-take, length-drop, length-replicate, take-append-drop, drop-of-length-le, getD-replicate, List·getD-append}
-use lib.Seq.{take-all, take-take, take-at, take-append-le, take-append-add, drop-nil, take-nil, getD-take, getD-append-seam, getD-append-add}
+use lib.ListN.{length, take, drop, getD, replicate, length-append, length-take, length-drop, take-append-drop, drop-of-length-le, getD-replicate, List·getD-append}
+use lib.Seq.{take-take, take-at, take-append-le, take-append-add, drop-nil, take-nil, getD-take, getD-append-seam, getD-append-add}
 use Rattle.paper.specs.Walk.{worth}
 use Rattle.paper.specs.Bits.{byteBits, bits, byteOf, packed, laid}
 use Rattle.bits.specs.Bits.{kept}

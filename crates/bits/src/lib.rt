@@ -1,7 +1,7 @@
 // Packed bits: the bit at a place, the next of the first b bits, and one bit put. Bits fill bytes from the high end.
 ghost use mathlib.Core.Path.{_≡_};
 ghost use mathlib.Core.Bool.{false};
-ghost use Prim.Native.Nat.{ℕ, _+_, _*_, _^_, _<_, _≤_};
+ghost use Prim.Native.Nat.{_+_, _*_, _^_, _<_, _≤_};
 ghost use lib.ListN.{length, getD};
 ghost use Rattle.paper.specs.Bits.{bits};
 ghost use Rattle.bits.specs.Bits.{Sink, withBit, put1, ReadBit};

@@ -1,20 +1,20 @@
 // A 512-byte block: made by value, and checked where it lies.
 ghost use mathlib.Core.Path.{_≡_};
 ghost use mathlib.Core.List.{_++_};
-ghost use Prim.Native.Nat.{_+_, _<_, _≤_};
+ghost use Prim.Native.Nat.{_≤_};
 ghost use lib.ListN.{length, take, drop, replicate};
 ghost use Rattle.paper.specs.Lists.{over};
-ghost use Rattle.paper.specs.Block.{edition, header, sealed, payloadStart, fieldsRight, checksRight};
+ghost use Rattle.paper.specs.Block.{edition, header, sealed, payloadStart, payloadBytes, fieldsRight, checksRight};
 ghost use Rattle.paper.specs.Jobs.{checkJob};
 
-// Where the payload starts, and where the checks stand.
+const EDITION: u8 = 1;
+
+// Where the payload starts, where the checks stand, and the payload's bits.
 const PAYLOAD: usize = 16;
 
 const CHECKS: usize = 508;
 
 const PAYLOAD_BITS: usize = 8 * (CHECKS - PAYLOAD);
-
-const EDITION: u8 = 1;
 
 // `src` over the front of `dst`.
 pub fn copy_in(dst: &mut [u8], src: &[u8])
@@ -48,8 +48,8 @@ fn headed(k: u8, levels: u8, n: u8, label: &[u8], number: usize, count: usize) -
 
 // The payload's part filled.
 fn with_payload(from: [u8; 512], payload: &[u8]) -> [u8; 512]
-    requires { ⌜ length (now payload) ≡ 492 ⌝ }
-    ensures { λ r. ⌜ r ≡ take 16 from ++ (now (payload .entry) ++ drop 508 from) ⌝ }
+    requires { ⌜ length (now payload) ≡ payloadBytes payloadStart ⌝ }
+    ensures { λ r. ⌜ r ≡ take payloadStart from ++ (now (payload .entry) ++ drop 508 from) ⌝ }
 {
     let mut block = from;
     copy_in(&mut block[PAYLOAD..CHECKS], payload);
@@ -63,10 +63,10 @@ fn with_checks(from: [u8; 512]) -> [u8; 512]
     let mut block = from;
     let a = sums::check_a(&block[0..CHECKS]);
     let b = sums::check_b(&block[0..CHECKS]);
-    block[508] = (a / 256 % 256) as u8;
-    block[509] = (a % 256) as u8;
-    block[510] = (b / 256 % 256) as u8;
-    block[511] = (b % 256) as u8;
+    block[CHECKS] = (a / 256 % 256) as u8;
+    block[CHECKS + 1] = (a % 256) as u8;
+    block[CHECKS + 2] = (b / 256 % 256) as u8;
+    block[CHECKS + 3] = (b % 256) as u8;
     block
 }
 
@@ -81,7 +81,7 @@ pub fn made(
     payload: &[u8],
 ) -> [u8; 512]
     requires { ⌜ length (now label) ≡ 8 ⌝ }
-    requires { ⌜ length (now payload) ≡ 492 ⌝ }
+    requires { ⌜ length (now payload) ≡ payloadBytes payloadStart ⌝ }
     ensures { λ r. ⌜ r ≡ sealed (header edition k levels n (now (label .entry)) number count ++ now (payload .entry)) ⌝ }
 {
     with_checks(with_payload(headed(k, levels, n, label, number, count), payload))

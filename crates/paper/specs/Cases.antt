@@ -19,57 +19,57 @@ use Rattle.paper.specs.Jobs.{sizesRefusal, Forward, forwardRefusal, forw
 
 -- ---- what is given
 -- the numbers that a slice holds before it is filled: those of the last label
-abbrev last : List ℤ
+abbrev pub last : List ℤ
 last = replicate 64 (negsuc 8)
 
-abbrev zeros : ℕ → List ℤ
+abbrev pub zeros : ℕ → List ℤ
 zeros count = replicate count (pos 0)
 
-abbrev five : List ℤ
+abbrev pub five : List ℤ
 five = pos 5 ∷ zeros 63
 
-abbrev four : List ℤ
+abbrev pub four : List ℤ
 four = pos 4 ∷ zeros 63
 
-abbrev minusThree : List ℤ
+abbrev pub minusThree : List ℤ
 minusThree = zeros 15 ++ negsuc 2 ∷ zeros 48
 
 -- a limit that cuts nothing
-abbrev whole : ℕ
+abbrev pub whole : ℕ
 whole = 1000
 
-abbrev coded : List ℤ → List ℕ → Coding
+abbrev pub coded : List ℤ → List ℕ → Coding
 coded numbers bytes = codingJob 3 2 numbers whole bytes
 
 -- P3's bytes, of which the first b bits are decoded
-abbrev cut : ℕ → Decoding
+abbrev pub cut : ℕ → Decoding
 cut b = decodingJob 3 2 3 last (0xC0 ∷ 0x08 ∷ 0x00 ∷ []) b
 
-abbrev label417 : List ℕ
+abbrev pub label417 : List ℕ
 label417 = 0x30 ∷ 0x30 ∷ 0x30 ∷ 0x30 ∷ 0x30 ∷ 0x34 ∷ 0x31 ∷ 0x37 ∷ []
 
 -- the block of P9 with label 00000417, whole
-abbrev block417 : List ℕ
+abbrev pub block417 : List ℕ
 block417 = 0x01 ∷ 0x03 ∷ 0x02 ∷ 0x00 ∷ (label417 ++ (replicate 496 0x00 ++ 0x01 ∷ 0x92 ∷ 0x0D ∷ 0x54 ∷ []))
 
 -- ---- the claim
 pub record Checked : Type 0 where
-  P1 : lineForward (pos 1 ∷ pos 2 ∷ pos 3 ∷ pos 4 ∷ []) ≡ pos 1 ∷ pos 3 ∷ pos 0 ∷ pos 1 ∷ []
-  P2 : lineForward (pos 0 ∷ negsuc 0 ∷ negsuc 0 ∷ pos 0 ∷ []) ≡ pos 0 ∷ negsuc 0 ∷ pos 0 ∷ pos 1 ∷ []
-  P3 : coded five (0xFF ∷ 0xFF ∷ 0xFF ∷ 0xFF ∷ []) ≡ record { refusal = 0; written = 17; n = 3; bytes = 0xC0 ∷ 0x08 ∷ 0x00 ∷ 0xFF ∷ [] }
-  P4 : cut 2 ≡ record { refusal = 0; unfinished = 3; read = 2; numbers = zeros 64 }
-  P5 : cut 3 ≡ record { refusal = 0; unfinished = 3; read = 3; numbers = four }
-  P6 : cut 7 ≡ record { refusal = 0; unfinished = 2; read = 7; numbers = four }
-  P7 : cut 13 ≡ record { refusal = 0; unfinished = 1; read = 13; numbers = five }
-  P8 : coded minusThree (0xFF ∷ 0xFF ∷ 0xFF ∷ []) ≡ record { refusal = 0; written = 19; n = 2; bytes = 0x48 ∷ 0xC0 ∷ 0x40 ∷ [] }
-  P9 : forwardJob 3 2 (replicate 64 128) last ≡ record { refusal = 0; n = 0; numbers = zeros 64 }
-  P9-bits : coded (zeros 64) (0xFF ∷ []) ≡ record { refusal = 0; written = 0; n = 0; bytes = 0xFF ∷ [] }
-  P9-planes : decodingJob 3 2 0 last [] 0 ≡ record { refusal = 0; unfinished = 0; read = 0; numbers = zeros 64 }
-  P10 : forwardJob 3 2 (replicate 64 255) last ≡ record { refusal = 0; n = 7; numbers = replicate 4 (pos 127) ++ zeros 60 }
-  P11 : zOf 3 (6 * 8 + 7) ≡ 61
-  block : writingJob 3 2 0 label417 [] 0 (replicate 514 0x55) ≡ record { refusal = 0; blocks = 1; room = block417 ++ 0x55 ∷ 0x55 ∷ [] }
-  label : readingJob block417 label417 (replicate 492 0x55) ≡ record { refusal = 0; k = 3; L = 2; n = 0; blocks = 1; bits = 0; ended = 0; room = replicate 492 0x55 }
-  zeros-kept : (readingJob block417 (0x34 ∷ 0x31 ∷ 0x37 ∷ []) (replicate 492 0x55)) .refusal ≡ 7
+  pub P1 : lineForward (pos 1 ∷ pos 2 ∷ pos 3 ∷ pos 4 ∷ []) ≡ pos 1 ∷ pos 3 ∷ pos 0 ∷ pos 1 ∷ []
+  pub P2 : lineForward (pos 0 ∷ negsuc 0 ∷ negsuc 0 ∷ pos 0 ∷ []) ≡ pos 0 ∷ negsuc 0 ∷ pos 0 ∷ pos 1 ∷ []
+  pub P3 : coded five (0xFF ∷ 0xFF ∷ 0xFF ∷ 0xFF ∷ []) ≡ record { refusal = 0; written = 17; n = 3; bytes = 0xC0 ∷ 0x08 ∷ 0x00 ∷ 0xFF ∷ [] }
+  pub P4 : cut 2 ≡ record { refusal = 0; unfinished = 3; read = 2; numbers = zeros 64 }
+  pub P5 : cut 3 ≡ record { refusal = 0; unfinished = 3; read = 3; numbers = four }
+  pub P6 : cut 7 ≡ record { refusal = 0; unfinished = 2; read = 7; numbers = four }
+  pub P7 : cut 13 ≡ record { refusal = 0; unfinished = 1; read = 13; numbers = five }
+  pub P8 : coded minusThree (0xFF ∷ 0xFF ∷ 0xFF ∷ []) ≡ record { refusal = 0; written = 19; n = 2; bytes = 0x48 ∷ 0xC0 ∷ 0x40 ∷ [] }
+  pub P9 : forwardJob 3 2 (replicate 64 128) last ≡ record { refusal = 0; n = 0; numbers = zeros 64 }
+  pub P9-bits : coded (zeros 64) (0xFF ∷ []) ≡ record { refusal = 0; written = 0; n = 0; bytes = 0xFF ∷ [] }
+  pub P9-planes : decodingJob 3 2 0 last [] 0 ≡ record { refusal = 0; unfinished = 0; read = 0; numbers = zeros 64 }
+  pub P10 : forwardJob 3 2 (replicate 64 255) last ≡ record { refusal = 0; n = 7; numbers = replicate 4 (pos 127) ++ zeros 60 }
+  pub P11 : zOf 3 (6 * 8 + 7) ≡ 61
+  pub block : writingJob 3 2 0 label417 [] 0 (replicate 514 0x55) ≡ record { refusal = 0; blocks = 1; room = block417 ++ 0x55 ∷ 0x55 ∷ [] }
+  pub label : readingJob block417 label417 (replicate 492 0x55) ≡ record { refusal = 0; k = 3; L = 2; n = 0; blocks = 1; bits = 0; ended = 0; room = replicate 492 0x55 }
+  pub zeros-kept : (readingJob block417 (0x34 ∷ 0x31 ∷ 0x37 ∷ []) (replicate 492 0x55)) .refusal ≡ 7
 
 pub checked : Checked
 unfolding sizeIn levelsIn planesIn numbersIn mostBits made joined highOf lowOf highAt lowAt lineForward interleaved columnOf rowOf zOf rasterOf placeOf lineOf spotOf line along levelForward onFirst levelsForward lowered numbersOf bitOf reaches largest bitsNeeded planeCount testSet refined begun walkNumber _next_ walkNumbers walkSet walkRest walkPlane walkPlanes codeOf decodeOf bits byteOf packed laid allZero labelCharacter labelCharacters isLabel sameBytes plainSum weighedSum header sealed payloadOf checksRight fieldsRight blockRefusal blockOf recordOf inTurn turnRefusal runFrom bitsKept payloadKept sizesRefusal forwardRefusal forwardJob codingRefusal writtenOf codingJob decodingRefusal decodingJob writingRefusal writingJob readingRefusal readingJob

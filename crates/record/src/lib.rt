@@ -69,6 +69,7 @@ fn write_refusal(
     rows(fits(k, n, bytes, b, room), fields::is_label(label))
 }
 
+#[repr(C)]
 pub struct Blocks {
     pub refusal: u32,
     pub blocks: usize,
@@ -120,6 +121,7 @@ fn holds(blocks: usize, room: usize) -> bool
     492 * (blocks / 512) <= room
 }
 
+#[repr(C)]
 pub struct Kept {
     pub refusal: u32,
     pub k: u32,

@@ -17,7 +17,7 @@ use mir.Val.{Fits, SFits}
 use borrow.Author.Tests.{leb-true, le-leb, lt-leb, ltb-true, ltb-false}
 use Rattle.integers.specs.Difference.{split, apart}
 use Rattle.integers.specs.Order.{Within, ints, zarith}
-use Rattle.paper.specs.Sizes.{numbersIn, numberLimit}
+use Rattle.paper.specs.Sizes.{planesIn, numbersIn, numberLimit}
 use Rattle.paper.specs.Lists.{at}
 use Rattle.paper.specs.Walk.{largest, bitsNeeded, planeCount}
 use Rattle.sizes.proofs.Ranges.{both-first, both-second}
@@ -107,3 +107,17 @@ halved f n left most h l e = go (f - n) refl l e
         let r : f - (n + 1) ≡ g = omega arith in
         let p : 2 ^ suc g ≡ 2 ^ g * 2 = pow-suc 2 g in
         record { more = omega arith; small = rw r (omega arith); same = rw r (omega (arith, one-needed g left h)) }
+
+-- no magnitude needs more bits than there are planes
+bits-most : (f m : ℕ) → bitsNeeded f m ≤ f
+unfolding bitsNeeded
+bits-most zero m = omega arith
+bits-most (suc f) m = go (leb 1 m) (bits-most f (m / 2))
+  where
+    go : (b : Bool) → bitsNeeded f (m / 2) ≤ f → (elim b as (λ _. ℕ) [ true ↦ suc (bitsNeeded f (m / 2)) | false ↦ 0 ]) ≤ suc f
+    go true h = omega arith
+    go false h = omega arith
+
+pub count-in : (xs : List ℤ) → planesIn (planeCount xs) ≡ true
+unfolding planesIn planeCount
+count-in xs = le-leb (bitsNeeded 18 (largest xs)) 18 (bits-most 18 (largest xs))

@@ -1,7 +1,8 @@
-use Rattle.bits.proofs.OneBit.{bit-is}
+-- The shift and the remainder are the bit that the list of bits has there.
 use borrow.Author.Needs.{needs}
-use Rattle.bits.proofs.bit_at.Statement.{statement}
+use Rattle.bits.proofs.OneBit.{bit-is}
 use Rattle.bits.proofs.bit_at.Tie as tie
+use Rattle.bits.proofs.bit_at.Statement.{statement}
 
 sub-low : tie.Need-sub-low
 sub-low c = search needs

@@ -1,8 +1,9 @@
+-- At the limit nothing, below it one byte changed.
 use borrow.Author.Tests.{lt-ltb, le-ltb}
-use Rattle.bits.specs.Bits.{put1}
 use borrow.Author.Needs.{needs}
-use Rattle.bits.proofs.put.Statement.{statement}
+use Rattle.bits.specs.Bits.{put1}
 use Rattle.bits.proofs.put.Tie as tie
+use Rattle.bits.proofs.put.Statement.{statement}
 
 returns : tie.Need-returns
 unfolding put1

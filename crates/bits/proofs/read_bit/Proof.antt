@@ -1,7 +1,8 @@
-use Rattle.bits.proofs.OneBit.{read-yes, read-no}
+-- A bit that is there, and one that is missed.
 use borrow.Author.Needs.{needs}
-use Rattle.bits.proofs.read_bit.Statement.{statement}
+use Rattle.bits.proofs.OneBit.{read-yes, read-no}
 use Rattle.bits.proofs.read_bit.Tie as tie
+use Rattle.bits.proofs.read_bit.Statement.{statement}
 
 bit-at-requires : tie.Need-bit-at-requires
 bit-at-requires c κs = search needs

@@ -1,8 +1,9 @@
+-- The parts of the byte fit, whichever of its eight bits is put.
 use native.Mathlib.Omega.{arith}
-use Rattle.bits.proofs.OneBit.{fit, bit-one, bit-zero}
 use borrow.Author.Needs.{needs}
-use Rattle.bits.proofs.with_bit.Statement.{statement}
+use Rattle.bits.proofs.OneBit.{fit, bit-one, bit-zero}
 use Rattle.bits.proofs.with_bit.Tie as tie
+use Rattle.bits.proofs.with_bit.Statement.{statement}
 
 sub-w : tie.Need-sub-w
 sub-w c = search needs

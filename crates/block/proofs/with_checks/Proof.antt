@@ -38,17 +38,26 @@ array-write-block c = search needs
 cast-block-2 : tie.Need-cast-block-2
 cast-block-2 c = search needs
 
+add-block : tie.Need-add-block
+add-block c = search needs
+
 array-write-block-2 : tie.Need-array-write-block-2
 array-write-block-2 c = search needs
 
 cast-block-3 : tie.Need-cast-block-3
 cast-block-3 c = search needs
 
+add-block-2 : tie.Need-add-block-2
+add-block-2 c = search needs
+
 array-write-block-3 : tie.Need-array-write-block-3
 array-write-block-3 c = search needs
 
 cast-block-4 : tie.Need-cast-block-4
 cast-block-4 c = search needs
+
+add-block-3 : tie.Need-add-block-3
+add-block-3 c = search needs
 
 array-write-block-4 : tie.Need-array-write-block-4
 array-write-block-4 c = search needs
@@ -72,9 +81,12 @@ with-checks-spec =
     cast-block
     array-write-block
     cast-block-2
+    add-block
     array-write-block-2
     cast-block-3
+    add-block-2
     array-write-block-3
     cast-block-4
+    add-block-3
     array-write-block-4
     returns)

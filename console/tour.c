@@ -1,0 +1,68 @@
+/* A picture's whole journey through the archive, from C: into a record, and out of it whole and cut, at every size. */
+#include <stdio.h>
+#include <stdlib.h>
+#include <string.h>
+
+#include "label.h"
+
+enum { PLACES = 65536, BYTES = 204800, BLOCKS = 417 };
+
+static uint8_t picture[PLACES], shown[PLACES], bytes[BYTES], record[BLOCKS * LABEL_BLOCK_BYTES], payload[BLOCKS * LABEL_PAYLOAD_BYTES];
+static int32_t numbers[PLACES], room[PLACES];
+static const uint8_t label[8] = {'0', '0', '0', '0', '0', '4', '1', '7'};
+
+/* A ramp with a bar across it. */
+static void draw(size_t side)
+{
+    for (size_t row = 0; row < side; row++)
+        for (size_t column = 0; column < side; column++)
+            picture[row * side + column] = (uint8_t)(column % 8 < 2 ? 255 - row * 200 / side : column * 255 / (side - 1));
+}
+
+/* What the first blocks of the record show: the planes unfinished, and the largest error against the promised one. */
+static void out(uint32_t k, size_t places, size_t blocks)
+{
+    struct label_kept kept;
+    struct label_settled settled;
+    unsigned long largest = 0, promised;
+
+    kept = label_read(record, blocks * LABEL_BLOCK_BYTES, label, sizeof label, payload, sizeof payload);
+    settled = label_decode(kept.k, kept.levels, kept.n, numbers, places, payload, sizeof payload, kept.bits);
+    if (kept.refusal || settled.refusal || label_inverse(kept.k, kept.levels, numbers, places, shown, places, room, places) || kept.k != k) {
+        printf("refused\n");
+        exit(1);
+    }
+    for (size_t place = 0; place < places; place++) {
+        unsigned long off = (unsigned long)abs(picture[place] - shown[place]);
+        if (off > largest)
+            largest = off;
+    }
+    promised = (7ul * kept.levels + 1) * ((1ul << settled.unfinished) - 1);
+    printf("  %zu of its blocks: %zu bits, %u planes unfinished, %s\n", kept.blocks, kept.bits, (unsigned)settled.unfinished,
+           largest > promised ? "WORSE THAN PROMISED" : settled.unfinished == 0 ? "the very picture" : "as good as promised");
+}
+
+int main(void)
+{
+    for (uint32_t k = 3; k <= 8; k++) {
+        size_t side = (size_t)1 << k, places = side * side;
+        uint32_t levels = k - 1 < 5 ? k - 1 : 5;
+        struct label_planes planes;
+        struct label_written written;
+        struct label_blocks blocks;
+
+        draw(side);
+        planes = label_forward(k, levels, picture, places, numbers, places);
+        written = label_code(k, levels, numbers, places, (size_t)-1, bytes, sizeof bytes);
+        blocks = label_write(k, levels, written.n, label, sizeof label, bytes, sizeof bytes, written.bits, record, sizeof record);
+        if (planes.refusal || written.refusal || blocks.refusal || planes.n != written.n) {
+            printf("refused\n");
+            return 1;
+        }
+        printf("side %zu, %u levels: %u planes, %zu bits, %zu blocks\n", side, (unsigned)levels, (unsigned)planes.n, written.bits, blocks.blocks);
+        out(k, places, blocks.blocks);
+        if (blocks.blocks > 1)
+            out(k, places, blocks.blocks / 2);
+    }
+    return 0;
+}

@@ -1,0 +1,5 @@
+pub mod Signs
+pub mod Bits
+pub mod Fours
+pub mod Parts
+pub mod Quarters

@@ -1,0 +1,85 @@
+-- `read_number` meets its contract.
+use mathlib.Core.Path.{_∙_, ap}
+use Prim.Native.Nat.{_+_}
+use native.Mathlib.Omega.{arith}
+use lib.Pow.{pow-lt}
+use lib.IntN.{natAbs}
+use borrow.Author.Tests.{not-true, not-false}
+use borrow.Author.Needs.{needs}
+use Rattle.paper.specs.Walk.{negative, signed}
+use Rattle.decoder.proofs.Bits.{number-still, number-grown, number-unsigned, number-begun}
+use Rattle.decoder.proofs.Signs.{held, takes, takes-kept, passes, kept-signed}
+use Rattle.decoder.proofs.read_number.Statement.{statement}
+use Rattle.decoder.proofs.read_number.Tie as tie
+
+threshold-requires : tie.Need-threshold-requires
+threshold-requires c κs = search needs
+
+magnitude-requires : tie.Need-magnitude-requires
+magnitude-requires c κs =
+    passes (c .before .before .args .x) (c .before .before .args .p) (c .before .before .pre .0)
+
+read-bit-requires : tie.Need-read-bit-requires
+read-bit-requires c κs = search needs
+
+returns : tie.Need-returns
+returns c =
+    let x = c .before .before .before .before .before .before .args .x in
+    let p = c .before .before .before .before .before .before .args .p in
+    let h = c .before .before .before .before .before .before .pre .0 in
+    let e = held x p h in
+    number-still p x (c .before .before .read-bit .ensures) _ e (not-true _ (c .if1 .taken))
+
+mul-if2 : tie.Need-mul-if2
+mul-if2 c = search needs
+
+grown-requires : tie.Need-grown-requires
+grown-requires c κs =
+    takes-kept (c .before .before .before .before .before .before .before .args .x) (c .before .before .before .before .before .before .before .args .p) (c .before .before .before .before .before .before .before .pre .0) _ (c .before .before .before .before .before .threshold .ensures)
+
+returns-2 : tie.Need-returns-2
+returns-2 c =
+    let x = c .before .before .before .before .before .before .before .before .args .x in
+    let p = c .before .before .before .before .before .before .before .before .args .p in
+    let h = c .before .before .before .before .before .before .before .before .pre .0 in
+    let e = held x p h in
+    number-grown p x (c .before .before .before .before .read-bit .ensures) _ _ (c .before .before .before .before .before .before .threshold .ensures) (c .before .before .before .before .before .magnitude .ensures ∙ ap natAbs e) _ (c .before .if2 .taken) (not-false _ (c .before .before .if1 .left)) (kept-signed _ (negative x) (natAbs x + c .before .before .before .before .before .before .threshold .result) (c .grown .ensures ∙ ap (λ z. signed (negative z) (natAbs z + c .before .before .before .before .before .before .threshold .result)) e) (takes x p h _ (c .before .before .before .before .before .before .threshold .ensures)))
+
+read-bit-requires-2 : tie.Need-read-bit-requires-2
+read-bit-requires-2 c κs = search needs
+
+returns-3 : tie.Need-returns-3
+returns-3 c =
+    let x = c .before .before .before .before .before .before .before .before .before .args .x in
+    let p = c .before .before .before .before .before .before .before .before .before .args .p in
+    let h = c .before .before .before .before .before .before .before .before .before .pre .0 in
+    let e = held x p h in
+    number-unsigned p x (c .before .before .before .before .before .read-bit .ensures) _ _ (c .before .before .before .before .before .before .before .threshold .ensures) (c .before .before .before .before .before .before .magnitude .ensures ∙ ap natAbs e) (c .before .read-bit2 .ensures) _ e (c .before .before .if2 .left) (not-false _ (c .before .before .before .if1 .left)) (c .if3 .taken)
+
+begun-requires : tie.Need-begun-requires
+begun-requires c κs =
+    omega (arith, c .before .before .before .before .before .before .before .threshold .ensures, pow-lt (c .before .before .before .before .before .before .before .before .before .pre .1 .0))
+
+returns-4 : tie.Need-returns-4
+returns-4 c =
+    let x = c .before .before .before .before .before .before .before .before .before .before .args .x in
+    let p = c .before .before .before .before .before .before .before .before .before .before .args .p in
+    let h = c .before .before .before .before .before .before .before .before .before .before .pre .0 in
+    let e = held x p h in
+    number-begun p x (c .before .before .before .before .before .before .read-bit .ensures) _ _ (c .before .before .before .before .before .before .before .before .threshold .ensures) (c .before .before .before .before .before .before .before .magnitude .ensures ∙ ap natAbs e) (c .before .before .read-bit2 .ensures) _ (c .before .before .before .if2 .left) (not-false _ (c .before .before .before .before .if1 .left)) (c .before .if3 .left) (kept-signed _ (c .before .before .read-bit2 .result .one) (c .before .before .before .before .before .before .before .before .threshold .result) (c .begun .ensures) (omega (arith, c .before .before .before .before .before .before .before .before .threshold .ensures, pow-lt (c .before .before .before .before .before .before .before .before .before .before .pre .1 .0))))
+
+pub read-number-spec : {M : Type 1} → statement M
+read-number-spec =
+    tie.close
+    (tie.spec
+    threshold-requires
+    magnitude-requires
+    read-bit-requires
+    returns
+    mul-if2
+    grown-requires
+    returns-2
+    read-bit-requires-2
+    returns-3
+    begun-requires
+    returns-4)

@@ -1,0 +1,25 @@
+-- `read_test` meets its contract.
+use Prim.Native.Nat.{suc}
+use Rattle.walk.specs.Room.{room-in}
+use Rattle.decoder.proofs.Bits.{test-open, test-bit}
+use borrow.Author.Needs.{needs}
+use Rattle.decoder.proofs.read_test.Statement.{statement}
+use Rattle.decoder.proofs.read_test.Tie as tie
+
+scan-requires : tie.Need-scan-requires
+scan-requires c κs = (room-in (suc (c .before .args .p)) (c .before .args .numbers .now) (c .before .pre .0), c .before .pre .1 .0)
+
+enum-told : tie.Need-enum-told
+enum-told c = search needs
+
+returns : tie.Need-returns
+returns c = test-open _ _ _ _ _ _ (c .before .before .scan .ensures) (c .before .match .keys1)
+
+read-bit-requires : tie.Need-read-bit-requires
+read-bit-requires c κs = search needs
+
+returns-2 : tie.Need-returns-2
+returns-2 c = test-bit _ _ _ _ _ _ _ _ (c .before .before .scan .ensures) (c .before .match .keys2) (c .read-bit .ensures)
+
+pub read-test-spec : {M : Type 1} → statement M
+read-test-spec = tie.close (tie.spec scan-requires enum-told returns read-bit-requires returns-2)

@@ -1,0 +1,29 @@
+-- What the decoder's contracts cite: what the walk makes of the first b bits of bytes, from a place on.
+use mathlib.Core.Path.{_≡_}
+use mathlib.Core.List.{List, [], _∷_}
+use Prim.Native.Nat.{ℕ, suc, _+_, _*_, _^_, _<_, _≤_}
+use lib.IntN.{ℤ}
+use lib.ListN.{length}
+use Rattle.paper.specs.Walk.{Decoder, walkNumber, walkSet}
+use Rattle.walk.specs.Together.{Decodes}
+use Rattle.bits.specs.Bits.{tapeOf}
+
+-- b bits that are lent, with a place left to say that one was missed
+pub record Source (bytes : List ℕ) (b : ℕ) : Type 0 where
+  pub lent : b ≤ 8 * length bytes
+  pub missable : b + 1 < 2 ^ 64
+
+-- the numbers of a set
+pub record IsSet (xs : List ℤ) : Type 0 where
+  pub d : ℕ
+  pub is : length xs ≡ 4 ^ suc d
+
+-- from the place `at` on, the walk f answers a and leaves off at r
+pub record Walked {A : Type 0} (f : Decodes A) (bytes : List ℕ) (b at : ℕ) (a : A) (r : ℕ) : Type 0 where
+  pub is : f (tapeOf bytes b at) ≡ (a, tapeOf bytes b r)
+
+abbrev pub NumberRead : ℕ → ℤ → List ℕ → ℕ → ℕ → ℤ → ℕ → Type 0
+NumberRead p x bytes b at y r = Walked (walkNumber Decoder p x) bytes b at (y ∷ []) r
+
+pub record SetRead (p : ℕ) (xs : List ℤ) (bytes : List ℕ) (b at : ℕ) (ys : List ℤ) (r : ℕ) : Type 0 where
+  pub read : (d : ℕ) → length xs ≡ 4 ^ suc d → Walked (walkSet Decoder p d xs) bytes b at ys r

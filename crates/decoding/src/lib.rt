@@ -1,0 +1,118 @@
+// The job decoding: the refusals, then all S² numbers cleared, and the planes read from the first b bits.
+ghost use mathlib.Core.Path.{_≡_};
+ghost use Prim.Native.Nat.{ℕ, suc, _*_, _^_, _<_, _≤_, min};
+ghost use lib.Dec.{leb};
+ghost use lib.IntN.{pos};
+ghost use lib.ListN.{length, take, replicate};
+ghost use Rattle.paper.specs.Sizes.{mostSize, mostPlanes};
+ghost use Rattle.paper.specs.Bits.{bits};
+ghost use Rattle.paper.specs.Walk.{depth, decodeOf};
+ghost use Rattle.paper.specs.Jobs.{decodingRefusal, decodingJob};
+use planes::Done;
+
+// b bits are lent. 8 times the bytes can be more than a place can count, so b is compared by its whole bytes and what
+// is over.
+fn lent(bytes: &[u8], b: usize) -> bool
+    ensures { λ r. ⌜ r ≡ leb b (8 * length (now (bytes .entry))) ⌝ }
+{
+    let whole = b / 8;
+    if whole < bytes.len() {
+        return true;
+    }
+    if whole > bytes.len() {
+        return false;
+    }
+    b % 8 == 0
+}
+
+// Refusals 1, 2, 3, 5 and 6, lowest first, or 0.
+fn refusal(k: u32, levels: u32, n: u32, numbers: &[i32], bytes: &[u8], b: usize) -> u32
+    ensures { λ r. ⌜ r ≡ decodingRefusal k levels n (now (numbers .entry)) (now (bytes .entry)) b ⌝ }
+{
+    let r = sizes::sizes_refusal(k, levels);
+    if r > 0 {
+        return r;
+    }
+    if numbers.len() != sizes::area(k) {
+        return 3;
+    }
+    if !sizes::planes_in(n) {
+        return 5;
+    }
+    if lent(bytes, b) { 0 } else { 6 }
+}
+
+// The numbers of the first set.
+fn first_set(k: u32, levels: u32) -> usize
+    requires { ⌜ levels < k ⌝ }
+    requires { ⌜ k ≤ mostSize ⌝ }
+    ensures { λ r. ⌜ r ≡ 4 ^ suc (depth k levels) ⌝ }
+{
+    1usize << (2 * (k - levels))
+}
+
+// Every number 0, whatever was there.
+fn clear(numbers: &mut [i32])
+    ensures { λ r. ⌜ now (numbers .exit) ≡ replicate (length (now (numbers .entry))) (pos 0) ⌝ }
+{
+    let mut i = 0;
+    while i < numbers.len() {
+        numbers[i] = 0;
+        i += 1;
+    }
+}
+
+fn smaller(a: usize, b: usize) -> usize
+    ensures { λ r. ⌜ r ≡ min a b ⌝ }
+{
+    if b < a { b } else { a }
+}
+
+// What the first b bits settle, of sizes that are right. No walk reads 4,194,304 bits, and with no more than that there
+// is a place left to say that a bit was missed.
+fn settle(k: u32, levels: u32, n: u32, numbers: &mut [i32], bytes: &[u8], b: usize) -> Done
+    requires { ⌜ levels < k ⌝ }
+    requires { ⌜ k ≤ mostSize ⌝ }
+    requires { ⌜ n ≤ mostPlanes ⌝ }
+    requires { ⌜ length (now numbers) ≡ 4 ^ k ⌝ }
+    requires { ⌜ b ≤ 8 * length (now bytes) ⌝ }
+    ensures { λ r. ⌜ decodeOf k levels n (take b (bits (now (bytes .entry)))) ≡ record { numbers = now (numbers .exit); unfinished = r .unfinished; read = r .at } ⌝ }
+{
+    clear(numbers);
+    let first = first_set(k, levels);
+    let c = smaller(4194304, b);
+    let s = planes::read_planes(numbers, first, n, bytes, c);
+    let read = smaller(s.at, c);
+    Done {
+        unfinished: s.unfinished,
+        at: read,
+    }
+}
+
+#[repr(C)]
+pub struct Settled {
+    pub refusal: u32,
+    pub unfinished: u32,
+    pub read: usize,
+}
+
+// Decoding of the first b bits: writes all S² numbers, gives unfinished planes and bits read.
+pub fn decode(k: u32, levels: u32, n: u32, numbers: &mut [i32], bytes: &[u8], b: usize) -> Settled
+    ensures { λ r. ⌜ decodingJob k levels n (now (numbers .entry)) (now (bytes .entry)) b ≡ record { refusal = r .refusal; unfinished = r .unfinished; read = r .read; numbers = now (numbers .exit) } ⌝ }
+{
+    let r = refusal(k, levels, n, numbers, bytes, b);
+    if r > 0 {
+        return Settled {
+            refusal: r,
+            unfinished: 0,
+            read: 0,
+        };
+    }
+    let s = settle(k, levels, n, numbers, bytes, b);
+    let read = s.at;
+    Settled {
+        refusal: 0,
+        unfinished: s.unfinished,
+        read: read,
+    }
+}

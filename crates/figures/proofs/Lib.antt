@@ -1,0 +1,2 @@
+-- Laws of the limit on greys.
+pub mod Limit

@@ -1,0 +1,2 @@
+-- Numbers that the programs take and give.
+pub mod Figures

@@ -1,0 +1,87 @@
+-- Demand 2. A whole record gives back the very picture. Any bits at all, cut anywhere, decode to exactly what the walk has
+-- settled, zero for the rest, all of them written, with the true count of unfinished planes.
+use mathlib.Core.Path.{_≡_, refl, sym, ap, _∙_, subst}
+use mathlib.Core.Bool.{Bool, true, false}
+use mathlib.Core.List.{List}
+use Prim.Native.Nat.{ℕ, suc, _+_, _*_, _-_, _/_, _^_, _<_, _≤_, min}
+use native.Mathlib.Omega.{arith}
+use lib.IntN.{ℤ}
+use lib.ListN.{length, take}
+use borrow.Author.Tests.{eq-eqb, le-leb}
+use Rattle.paper.specs.Sizes.{sizeIn, levelsIn, planesIn}
+use Rattle.paper.specs.Square.{greysOf, pictured}
+use Rattle.paper.specs.Walk.{codeOf, decodeOf, Settled}
+use Rattle.paper.specs.Bits.{bits, laid}
+use Rattle.paper.specs.Record.{blocksFor}
+use Rattle.paper.specs.Jobs.{Decoding, decodingRefusal, settledJob, decodingJob, Writing, writingJob, writtenOf, Read, Inverse}
+use Rattle.sizes.proofs.Ranges.{levels-less}
+use Rattle.sizes.proofs.Refusals.{sizes-passed, done-is}
+use Rattle.square.specs.Picture.{lossless}
+use Rattle.walk.specs.Decoded.{all-bits}
+use Rattle.records.specs.BothJobs.{written}
+use Rattle.records.specs.ReadBack.{bitsIn, every-bit, readBack}
+use Rattle.label.specs.Journey.{intoRecord, Seen, outOfRecord}
+use Rattle.label.proofs.Way.{Numbers, written-all, accepted}
+use Rattle.label.proofs.Journeys.{Given, truth, n, code, truth-given, into-is, out-is, settled}
+
+-- ---- any bits at all
+pub any-bits : (k L n : ℕ) (numbers : List ℤ) (bytes : List ℕ) (b : ℕ) → sizeIn k ≡ true → levelsIn k L ≡ true → length numbers ≡ 4 ^ k → planesIn n ≡ true → b ≤ 8 * length bytes
+    → decodingJob k L n numbers bytes b ≡ settledJob (decodeOf k L n (take b (bits bytes)))
+unfolding decodingJob decodingRefusal
+any-bits k L n numbers bytes b s l e p h = done-is _ _ _ (sizes-passed k L _ s l ∙ rw (eq-eqb (length numbers) (4 ^ k) e, p, le-leb b (8 * length bytes) h))
+
+-- ---- a whole record
+-- a picture, and room enough for all of its bits; whatever the lent places held
+pub record Enough (k L : ℕ) (label picture : List ℕ) (limit : ℕ) (numbers : List ℤ) (bytes room payload : List ℕ) (lent : List ℤ) (shown : List ℕ) (greys : List ℤ) : Type 0 where
+  pub given : Given k L label picture
+  pub limit-holds : length (code k L label picture given) ≤ limit
+  pub numbers-hold : length numbers ≡ 4 ^ k
+  pub bytes-hold : length (code k L label picture given) ≤ 8 * length bytes
+  pub room-holds : 512 * blocksFor (length (code k L label picture given)) ≤ length room
+  pub payload-holds : 492 * blocksFor (length (code k L label picture given)) ≤ length payload
+  pub lent-holds : length lent ≡ 4 ^ k
+  pub shown-holds : length shown ≡ 4 ^ k
+  pub greys-hold : length greys ≡ 4 ^ k
+
+module _ (k L : ℕ) (label picture : List ℕ) (limit : ℕ) (numbers : List ℤ) (bytes room payload : List ℕ) (lent : List ℤ) (shown : List ℕ) (greys : List ℤ) (enough : Enough k L label picture limit numbers bytes room payload lent shown greys) where
+  abbrev G : Given k L label picture
+  G = enough .given
+
+  abbrev T : List ℤ
+  T = truth k L label picture G
+
+  abbrev C : List Bool
+  C = code k L label picture G
+
+  abbrev W : Writing
+  W = intoRecord k L label picture limit numbers bytes room
+
+  all-written : writtenOf k L T limit bytes ≡ C
+  all-written = written-all k L T (truth-given k L label picture G) limit bytes (enough .limit-holds) (enough .bytes-hold)
+
+  fits : 512 * blocksFor (length (writtenOf k L T limit bytes)) ≤ length room
+  fits = omega (arith, ap (λ (l : List Bool). blocksFor (length l)) all-written, enough .room-holds)
+
+  -- the record is written, and its blocks counted
+  pub whole-written : (W .refusal ≡ 0) × (W .blocks ≡ blocksFor (length C))
+  whole-written =
+      let e = into-is k L label picture G limit numbers (enough .numbers-hold) bytes room fits in
+      let w = written k L (n k L label picture G) label (laid (writtenOf k L T limit bytes) bytes) (length (writtenOf k L T limit bytes)) room (accepted k L T (truth-given k L label picture G) limit bytes label (G .labelled) room fits) in
+      (ap (λ (a : Writing). a .refusal) (e ∙ w), ap (λ (a : Writing). a .blocks) (e ∙ w) ∙ ap (λ (l : List Bool). blocksFor (length l)) all-written)
+
+  -- The whole record, read, decoded and inverted, is the very picture, with no plane unfinished.
+  pub very-picture : let S = outOfRecord label (take (512 * W .blocks) (W .room)) payload lent shown greys in
+      (S .read .refusal ≡ 0) × (S .decoded ≡ record { refusal = 0; unfinished = 0; read = length C; numbers = T }) × (S .rebuilt ≡ record { refusal = 0; picture = picture; room = greysOf k L T })
+  very-picture =
+      let B = blocksFor (length C) in
+      let b : blocksFor (length (writtenOf k L T limit bytes)) ≡ B = ap (λ (l : List Bool). blocksFor (length l)) all-written in
+      let m : 512 * W .blocks / 512 ≡ B = omega (arith, whole-written .1) in
+      let out = out-is k L label picture G limit numbers (enough .numbers-hold) bytes room fits (512 * W .blocks) (omega (arith, whole-written .1)) (omega (arith, whole-written .1, b)) payload (omega (arith, m, enough .payload-holds)) lent (enough .lent-holds) shown (enough .shown-holds) greys (enough .greys-hold) in
+      let all : decodeOf k L (n k L label picture G) (take (bitsIn (writtenOf k L T limit bytes) (512 * W .blocks / 512)) C) ≡ record { numbers = T; unfinished = 0; read = length C } =
+      all-bits k L T (levels-less k L (G .levels)) (truth-given k L label picture G .square) (truth-given k L label picture G .small) (bitsIn (writtenOf k L T limit bytes) (512 * W .blocks / 512)) (omega (arith, m, ap length all-written)) in
+      let picture-back : pictured k (greysOf k L T) ≡ picture = lossless L k picture (omega (arith, levels-less k L (G .levels))) (G .square) (G .greys) in (
+        ap (λ (s : Seen). s .read .refusal) out,
+        ap (λ (s : Seen). s .decoded) out ∙ ap settledJob all,
+        ap (λ (s : Seen). s .rebuilt) out ∙ ap {B = Inverse} (λ (s : Settled). record { refusal = 0; picture = pictured k (greysOf k L (s .numbers)); room = greysOf k L (s .numbers) }) all
+            ∙ ap {B = Inverse} (λ (g : List ℕ). record { refusal = 0; picture = g; room = greysOf k L T }) picture-back,
+      )

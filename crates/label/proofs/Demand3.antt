@@ -1,0 +1,125 @@
+-- Demand 3. Of a picture coded by the walk keep any first part of its bits, in a stream or in the blocks of a cut record: the
+-- wavelet numbers keep three promises, more bits never move a number away from the truth, and after L levels no grey in the
+-- rebuilt picture is off by more than (7 L + 1) times 2 ^ p - 1, p the unfinished planes.
+use mathlib.Core.Path.{_≡_, refl, sym, ap, _∙_, subst}
+use mathlib.Core.Bool.{Bool, true, false}
+use mathlib.Core.List.{List}
+use Prim.Native.Nat.{ℕ, zero, suc, _+_, _*_, _-_, _/_, _^_, _<_, _≤_, min}
+use native.Mathlib.Omega.{arith}
+use lib.IntN.{ℤ, pos, negsuc, natAbs, _-ℤ_}
+use lib.ListN.{length, take, getD}
+use Rattle.paper.specs.Lists.{at}
+use Rattle.paper.specs.Square.{greysOf, pictured}
+use Rattle.paper.specs.Walk.{negative, decodeOf, Settled}
+use Rattle.paper.specs.Record.{blocksFor}
+use Rattle.paper.specs.Jobs.{Decoding, Inverse, Read, writtenOf}
+use Rattle.sizes.proofs.Ranges.{levels-less}
+use Rattle.integers.specs.Difference.{pos-⊖, negsuc-⊖}
+use Rattle.lift.specs.Off.{Over, Off}
+use Rattle.lift.proofs.Near.{overs}
+use Rattle.square.specs.Picture.{lossless, greys-near, picture-near}
+use Rattle.walk.specs.Decoded.{Truthful, decodedFirst, truth, better}
+use Rattle.walk.specs.Read.{places}
+use Rattle.records.specs.ReadBack.{bitsIn}
+use Rattle.label.specs.Journey.{intoRecord, Seen, outOfRecord}
+use Rattle.label.proofs.Journeys as way
+use Rattle.label.proofs.Journeys.{Given, truth-given, seenAs, out-is}
+
+-- ---- a number that keeps the three promises is off by at most 2 ^ p - 1
+both-off : {B : ℕ} {x y : ℤ} → Over B x y × Over B y x → Off B x y
+both-off h = record { up = h .0; down = h .1 }
+
+off-above : (B a c : ℕ) → a ≤ c + B → c ≤ a + B → Over B (pos a) (pos c) × Over B (pos c) (pos a)
+off-above B a c = rw (pos-⊖ a, pos-⊖ c) (omega overs)
+
+off-below : (B a c : ℕ) → a ≤ c + B → c ≤ a + B → Over B (negsuc a) (negsuc c) × Over B (negsuc c) (negsuc a)
+off-below B a c = rw (negsuc-⊖ a, negsuc-⊖ c) (omega overs)
+
+off-none : (B a : ℕ) → suc a ≤ B → Over B (negsuc a) (pos 0) × Over B (pos 0) (negsuc a)
+off-none B a = rw (negsuc-⊖ a, pos-⊖ 0) (omega overs)
+
+truthful-off : (p : ℕ) (x z : ℤ) → Truthful p x z → Off (2 ^ p - 1) x z
+truthful-off p (pos a) (pos c) t = both-off (off-above (2 ^ p - 1) a c (omega (arith, t .notShort)) (omega (arith, t .notAbove)))
+truthful-off p (pos a) (negsuc c) t = absurd (let z : _≡_ {A = ℕ} 0 1 = cc (t .rightSign (λ (e : negsuc c ≡ pos 0). let z : _≡_ {A = ℕ} 0 1 = cc in omega arith)) in omega arith)
+truthful-off p (negsuc a) (pos zero) t = both-off (off-none (2 ^ p - 1) a (omega (arith, t .notShort)))
+truthful-off p (negsuc a) (pos (suc c)) t = absurd (let z : _≡_ {A = ℕ} 0 1 = cc (t .rightSign (λ (e : pos (suc c) ≡ pos 0). let z : suc c ≡ 0 = ap natAbs e in omega arith)) in omega arith)
+truthful-off p (negsuc a) (negsuc c) t = both-off (off-below (2 ^ p - 1) a c (omega (arith, t .notShort)) (omega (arith, t .notAbove)))
+
+-- ---- any first part of the bits
+module _ (k L : ℕ) (label picture : List ℕ) (given : Given k L label picture) where
+  -- the true wavelet numbers, and what the first b bits of their coding settle
+  abbrev pub true-numbers : List ℤ
+  true-numbers = way.truth k L label picture given
+
+  abbrev pub first : ℕ → Settled
+  first b = decodedFirst k L true-numbers b
+
+  -- the greys that the first b bits show
+  abbrev pub shows : ℕ → ℕ → ℕ
+  shows b place = getD (pictured k (greysOf k L ((first b) .numbers))) place 0
+
+  abbrev N : length true-numbers ≡ 4 ^ k
+  N = truth-given k L label picture given .square
+
+  -- No magnitude is above the true one, none short by more than 2 ^ p - 1, and none that isn't zero has the wrong sign.
+  pub numbers-truthful : (b i : ℕ) → Truthful ((first b) .unfinished) (at true-numbers i) (at ((first b) .numbers) i)
+  numbers-truthful = truth k L true-numbers (levels-less k L (given .levels)) N (truth-given k L label picture given .small)
+
+  -- Keeping more bits never moves a number away from the truth.
+  pub never-away : (b c i : ℕ) → b ≤ c → natAbs (at true-numbers i -ℤ at ((first c) .numbers) i) ≤ natAbs (at true-numbers i -ℤ at ((first b) .numbers) i)
+  never-away = better k L true-numbers (levels-less k L (given .levels)) N (truth-given k L label picture given .small)
+
+  -- No grey is off by more than (7 L + 1) (2 ^ p - 1).
+  pub grey-limit : (b place : ℕ) → place < 4 ^ k
+      → (shows b place ≤ getD picture place 0 + (7 * L + 1) * (2 ^ (first b) .unfinished - 1)) × (getD picture place 0 ≤ shows b place + (7 * L + 1) * (2 ^ (first b) .unfinished - 1))
+  grey-limit b place h =
+      let less : L ≤ k = omega (arith, levels-less k L (given .levels)) in
+      let near = picture-near (2 ^ (first b) .unfinished - 1) L k true-numbers ((first b) .numbers) less N (places k L _ _) (λ z g. truthful-off _ _ _ (numbers-truthful b z)) place h in
+      let back : getD (pictured k (greysOf k L true-numbers)) place 0 ≡ getD picture place 0 = ap (λ (g : List ℕ). getD g place 0) (lossless L k picture less (given .square) (given .greys)) in
+      (omega (arith, near .1, back), omega (arith, near .0, back))
+
+  -- ---- any record of it, cut anywhere that still opens
+  module _ (limit : ℕ) (numbers : List ℤ) (numbers-fit : length numbers ≡ 4 ^ k) (bytes room : List ℕ) (room-fits : 512 * blocksFor (length (writtenOf k L true-numbers limit bytes)) ≤ length room)
+      (payload : List ℕ) (lent : List ℤ) (lent-fits : length lent ≡ 4 ^ k) (shown : List ℕ) (shown-fits : length shown ≡ 4 ^ k) (greys : List ℤ) (greys-fit : length greys ≡ 4 ^ k) where
+    -- what is seen of the record's first m bytes, and the bits that are left in them
+    abbrev pub seen : ℕ → Seen
+    seen m = outOfRecord label (take m ((intoRecord k L label picture limit numbers bytes room) .room)) payload lent shown greys
+
+    abbrev pub left : ℕ → ℕ
+    left m = bitsIn (writtenOf k L true-numbers limit bytes) (m / 512)
+
+    -- a cut that still opens: one whole block at least; and room for the payload of its whole blocks
+    pub record Opens (m : ℕ) : Type 0 where
+      pub some : 512 ≤ m
+      pub within : m ≤ 512 * blocksFor (length (writtenOf k L true-numbers limit bytes))
+      pub payload-fits : 492 * (m / 512) ≤ length payload
+
+    module _ (m : ℕ) (opens : Opens m) where
+      seen-is : seen m ≡ seenAs k L (way.n k L label picture given) (writtenOf k L true-numbers limit bytes) payload (m / 512) (first (left m))
+      seen-is = out-is k L label picture given limit numbers numbers-fit bytes room room-fits m (opens .some) (opens .within) payload (opens .payload-fits) lent lent-fits shown shown-fits greys greys-fit
+
+      -- It opens, and what is decoded and shown is what its bits settle.
+      pub cut-opens : (seen m .read .refusal ≡ 0) × (seen m .decoded .refusal ≡ 0) × (seen m .rebuilt .refusal ≡ 0)
+      cut-opens = (ap (λ (s : Seen). s .read .refusal) seen-is, ap (λ (s : Seen). s .decoded .refusal) seen-is, ap (λ (s : Seen). s .rebuilt .refusal) seen-is)
+
+      pub cut-unfinished : seen m .decoded .unfinished ≡ (first (left m)) .unfinished
+      cut-unfinished = ap (λ (s : Seen). s .decoded .unfinished) seen-is
+
+      pub cut-numbers : seen m .decoded .numbers ≡ (first (left m)) .numbers
+      cut-numbers = ap (λ (s : Seen). s .decoded .numbers) seen-is
+
+      cut-picture : seen m .rebuilt .picture ≡ pictured k (greysOf k L ((first (left m)) .numbers))
+      cut-picture = ap (λ (s : Seen). s .rebuilt .picture) seen-is
+
+      pub cut-truthful : (i : ℕ) → Truthful (seen m .decoded .unfinished) (at true-numbers i) (at (seen m .decoded .numbers) i)
+      cut-truthful i = rw (cut-unfinished, cut-numbers) (numbers-truthful (left m) i)
+
+      pub cut-grey-limit : (place : ℕ) → place < 4 ^ k
+          → (getD (seen m .rebuilt .picture) place 0 ≤ getD picture place 0 + (7 * L + 1) * (2 ^ (seen m .decoded .unfinished) - 1))
+          × (getD picture place 0 ≤ getD (seen m .rebuilt .picture) place 0 + (7 * L + 1) * (2 ^ (seen m .decoded .unfinished) - 1))
+      cut-grey-limit place h = rw (cut-unfinished, cut-picture) (grey-limit (left m) place h)
+
+    -- A longer part of the record never moves a number away from the truth.
+    pub cut-never-away : (m l : ℕ) → Opens m → Opens l → m ≤ l → (i : ℕ)
+        → natAbs (at true-numbers i -ℤ at (seen l .decoded .numbers) i) ≤ natAbs (at true-numbers i -ℤ at (seen m .decoded .numbers) i)
+    cut-never-away m l o q h i = rw (cut-numbers m o, cut-numbers l q) (never-away (left m) (left l) i (omega arith))

@@ -1,0 +1,105 @@
+-- What a picture's journey comes to, whatever was lent on the way: the record of its first bits, and from any first part of
+-- that record with a whole block, what the bits in it settle.
+use mathlib.Core.Path.{_≡_, refl, sym, ap, _∙_, subst}
+use mathlib.Core.Bool.{Bool, true, false, _&&_}
+use mathlib.Core.List.{List}
+use Prim.Native.Nat.{ℕ, suc, _+_, _*_, _-_, _/_, _^_, _<_, _≤_, min}
+use native.Mathlib.Omega.{arith}
+use lib.Dec.{eqb}
+use lib.IntN.{ℤ}
+use lib.ListN.{length, take}
+use borrow.Author.Tests.{eq-eqb}
+use Rattle.paper.specs.Sizes.{sizeIn, levelsIn, numbersIn, mostPlanes}
+use Rattle.paper.specs.Square.{numbersOf, greysOf, pictured}
+use Rattle.paper.specs.Walk.{planeCount, codeOf, decodeOf, Settled}
+use Rattle.paper.specs.Bits.{laid}
+use Rattle.paper.specs.Block.{isLabel}
+use Rattle.paper.specs.Record.{blocksFor}
+use Rattle.paper.specs.Jobs.{isSquare, Forward, forwardRefusal, forwardJob, Coding, codingJob, writtenOf, Decoding, settledJob, decodingJob, Inverse, inverseRefusal, inverseJob, Writing, writingJob, Read, readingJob}
+use Rattle.sizes.proofs.Ranges.{levels-few, levels-less, planes-few}
+use Rattle.sizes.proofs.Refusals.{sizes-passed, done-is}
+use Rattle.sizes.proofs.Numbers.{count-in}
+use Rattle.square.specs.Numbers.{Bytes, numbers-in, length-numbers}
+use Rattle.records.specs.ReadBack.{bitsIn, readBack}
+use Rattle.walk.specs.Read.{places}
+use Rattle.walk.specs.Room.{decoded-in}
+use Rattle.label.specs.Journey.{intoRecord, Seen, outOfRecord}
+use Rattle.label.proofs.Way.{Numbers, coded, read, decoded}
+
+-- what is seen of the first j blocks of the record of l, where its bits settle s
+abbrev pub seenAs : ℕ → ℕ → ℕ → List Bool → List ℕ → ℕ → Settled → Seen
+seenAs k L n l payload j s = record {
+  read = readBack k L n l payload j;
+  decoded = settledJob s;
+  rebuilt = record { refusal = 0; picture = pictured k (greysOf k L (s .numbers)); room = greysOf k L (s .numbers) };
+}
+
+-- a picture of S² greys, sizes in their range, a label
+pub record Given (k L : ℕ) (label picture : List ℕ) : Type 0 where
+  pub size : sizeIn k ≡ true
+  pub levels : levelsIn k L ≡ true
+  pub labelled : isLabel label ≡ true
+  pub square : length picture ≡ 4 ^ k
+  pub greys : Bytes picture
+
+module _ (k L : ℕ) (label picture : List ℕ) (given : Given k L label picture) where
+  -- the true wavelet numbers, their plane count and their coding
+  abbrev pub truth : List ℤ
+  truth = numbersOf k L picture
+
+  abbrev pub n : ℕ
+  n = planeCount truth
+
+  abbrev pub code : List Bool
+  code = codeOf k L truth
+
+  pub truth-given : Numbers k L truth
+  truth-given = record {
+    size = given .size;
+    levels = given .levels;
+    square = length-numbers L k picture;
+    small = numbers-in L k picture (levels-few k L (given .levels)) (omega (arith, levels-less k L (given .levels))) (given .greys);
+  }
+
+  forwarded : (numbers : List ℤ) → length numbers ≡ 4 ^ k → forwardJob k L picture numbers ≡ record { refusal = 0; n = n; numbers = truth }
+  unfolding forwardJob forwardRefusal
+  forwarded numbers e = done-is _ _ _ (sizes-passed k L _ (given .size) (given .levels) ∙ rw (eq-eqb (length picture) (4 ^ k) (given .square), eq-eqb (length numbers) (4 ^ k) e))
+
+  module _ (limit : ℕ) (numbers : List ℤ) (numbers-fit : length numbers ≡ 4 ^ k) (bytes room : List ℕ) (room-fits : 512 * blocksFor (length (writtenOf k L truth limit bytes)) ≤ length room) where
+    -- the bits in the record
+    abbrev pub recorded : List Bool
+    recorded = writtenOf k L truth limit bytes
+
+    pub into-is : intoRecord k L label picture limit numbers bytes room ≡ writingJob k L n label (laid recorded bytes) (length recorded) room
+    unfolding intoRecord
+    into-is =
+        ap (λ (f : Forward). let c = codingJob k L (f .numbers) limit bytes in writingJob k L (c .n) label (c .bytes) (c .written) room) (forwarded numbers numbers-fit)
+        ∙ ap (λ (c : Coding). writingJob k L (c .n) label (c .bytes) (c .written) room) (coded k L truth truth-given limit bytes)
+
+    -- ---- out of its first m bytes
+    module _ (m : ℕ) (opens : 512 ≤ m) (within : m ≤ 512 * blocksFor (length recorded)) (payload : List ℕ) (payload-fits : 492 * (m / 512) ≤ length payload) (lent : List ℤ) (lent-fits : length lent ≡ 4 ^ k) (shown : List ℕ) (shown-fits : length shown ≡ 4 ^ k) (greys : List ℤ) (greys-fit : length greys ≡ 4 ^ k) where
+      -- the bits that are left, and what they settle
+      abbrev pub left : ℕ
+      left = bitsIn recorded (m / 512)
+
+      abbrev pub settled : Settled
+      settled = decodeOf k L n (take left code)
+
+      rebuilt : inverseJob k L (settled .numbers) shown greys ≡ record { refusal = 0; picture = pictured k (greysOf k L (settled .numbers)); room = greysOf k L (settled .numbers) }
+      unfolding inverseJob inverseRefusal
+      rebuilt = done-is _ _ _ (sizes-passed k L _ (given .size) (given .levels) ∙ rw (
+        eq-eqb (length (settled .numbers)) (4 ^ k) (places k L n (take left code)),
+        eq-eqb (length shown) (4 ^ k) shown-fits,
+        eq-eqb (length greys) (4 ^ k) greys-fit,
+        decoded-in k L n (take left code) (planes-few n (count-in truth)),
+      ))
+
+      pub out-is : outOfRecord label (take m ((intoRecord k L label picture limit numbers bytes room) .room)) payload lent shown greys
+          ≡ seenAs k L n recorded payload (m / 512) settled
+      unfolding outOfRecord
+      out-is =
+          ap (λ (r : Read). let d = decodingJob (r .k) (r .L) (r .n) lent (r .room) (r .bits) in record { read = r; decoded = d; rebuilt = inverseJob (r .k) (r .L) (d .numbers) shown greys })
+          (ap (λ (w : Writing). readingJob (take m (w .room)) label payload) into-is ∙ read k L truth truth-given limit bytes label (given .labelled) room room-fits m opens within payload payload-fits)
+          ∙ ap (λ (d : Decoding). record { read = readBack k L n recorded payload (m / 512); decoded = d; rebuilt = inverseJob k L (d .numbers) shown greys })
+          (decoded k L truth truth-given limit bytes label (given .labelled) room room-fits m opens within payload payload-fits lent lent-fits)
+          ∙ ap {B = Seen} (λ (i : Inverse). record { read = readBack k L n recorded payload (m / 512); decoded = settledJob settled; rebuilt = i }) rebuilt

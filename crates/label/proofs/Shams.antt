@@ -1,0 +1,50 @@
+-- Shams kept out: each program that the paper names as a sham has an outcome that its contract refutes.
+use mathlib.Core.Path.{_≡_, refl, sym, ap, _∙_}
+use mathlib.Core.Bool.{Bool, true, false}
+use mathlib.Core.List.{List, [], _∷_, _++_}
+use Prim.Native.Nat.{ℕ, zero, suc, _+_, _*_, _<_}
+use native.Mathlib.Omega.{arith}
+use lib.ListN.{length, take, replicate, getD}
+use lib.IntN.{ℤ, pos, negsuc, natAbs}
+use Rattle.paper.specs.Sizes.{sizeIn, levelsIn, planesIn, numbersIn, mostBits}
+use Rattle.paper.specs.Lists.{made, joined}
+use Rattle.paper.specs.Line.{oddOf, evenOf, evenAt, oddAt, woven, lineBack}
+use Rattle.paper.specs.Places.{interleaved, columnOf, rowOf, zOf, rasterOf}
+use Rattle.paper.specs.Square.{placeOf, lineOf, spotOf, line, along, levelBack, onFirst, levelsBack, raised, grey, pictured, greysOf}
+use Rattle.paper.specs.Walk.{bitOf}
+use Rattle.paper.specs.Bits.{bits, byteOf, packed, laid, allZero}
+use Rattle.paper.specs.Block.{labelCharacter, labelCharacters, isLabel, sameBytes, plainSum, weighedSum, header, sealed, payloadOf, checksRight, fieldsRight, blockRefusal}
+use Rattle.paper.specs.Record.{blockOf, recordOf, inTurn, turnRefusal, runFrom, bitsKept, payloadKept}
+use Rattle.paper.specs.Jobs.{sizesRefusal, Forward, forwardJob, Decoding, decodingJob, Inverse, inverseRefusal, inverseJob, Read, readingRefusal, readingJob}
+use Rattle.paper.specs.Cases.{checked, last, zeros, cut, label417}
+
+-- one that refuses everything: P9's call is not refused
+pub refuses-everything : (r n : ℕ) (numbers : List ℤ) → 0 < r → forwardJob 3 2 (replicate 64 128) last ≡ record { refusal = r; n = n; numbers = numbers } → ⊥
+refuses-everything r n numbers h contract = let z : 0 ≡ r = ap (λ (a : Forward). a .refusal) (sym (checked .P9) ∙ contract) in omega arith
+
+-- a fixed grey picture: numbers of two flat pictures give two pictures
+abbrev seen : List ℤ → ℕ
+seen numbers = getD ((inverseJob 3 2 numbers (replicate 64 0) last) .picture) 0 0
+
+pub fixed-picture : (g : ℕ) → seen (zeros 64) ≡ g → seen (replicate 4 (pos 127) ++ zeros 60) ≡ g → ⊥
+unfolding sizeIn levelsIn numbersIn made oddOf evenOf evenAt oddAt woven lineBack interleaved columnOf rowOf zOf rasterOf placeOf lineOf spotOf line along levelBack onFirst levelsBack raised grey pictured greysOf sizesRefusal inverseRefusal inverseJob
+fixed-picture g p q = let a : 128 ≡ g = p in let b : 255 ≡ g = q in omega arith
+
+-- a decoder that writes nothing: P4's slice does not end as it began
+pub writes-nothing : (cut 2) .numbers ≡ last → ⊥
+writes-nothing contract = let z : _≡_ {A = ℕ} 0 9 = ap (λ (l : List ℤ). natAbs (getD l 0 (pos 0))) (sym (ap (λ (a : Decoding). a .numbers) (checked .P4)) ∙ contract) in omega arith
+
+-- a made-up p: n always, or 0 always; P6's three planes have two unfinished
+pub always-n : (cut 7) .unfinished ≡ 3 → ⊥
+always-n contract = let z : _≡_ {A = ℕ} 2 3 = sym (ap (λ (a : Decoding). a .unfinished) (checked .P6)) ∙ contract in omega arith
+
+pub always-0 : (cut 7) .unfinished ≡ 0 → ⊥
+always-0 contract = let z : _≡_ {A = ℕ} 2 0 = sym (ap (λ (a : Decoding). a .unfinished) (checked .P6)) ∙ contract in omega arith
+
+-- a reader that uses block 0 and only nods at the others: a record of 3,944 bits has a byte in its second block
+abbrev two : List ℕ
+two = recordOf 5 2 3 label417 (replicate 3944 true)
+
+pub only-block-0 : (readingJob two label417 (replicate 984 0)) .blocks ≡ 1 → ⊥
+unfolding sizeIn levelsIn planesIn joined bitOf bits byteOf packed allZero labelCharacter labelCharacters isLabel sameBytes plainSum weighedSum header sealed payloadOf checksRight fieldsRight blockRefusal blockOf recordOf inTurn turnRefusal runFrom bitsKept payloadKept readingRefusal readingJob
+only-block-0 contract = let z : _≡_ {A = ℕ} 2 1 = contract in omega arith

@@ -1,0 +1,56 @@
+-- The refusal table, as rows of which some apply: what it means to refuse by the lowest.
+use mathlib.Core.Path.{_≡_}
+use mathlib.Core.Bool.{Bool, true, false, _&&_}
+use mathlib.Core.List.{List, [], _∷_, List·Memᴰ}
+use Prim.Native.Nat.{ℕ, _*_, _<_, _≤_}
+use lib.Dec.{leb, eqb}
+use lib.IntN.{ℤ}
+use lib.ListN.{length}
+use Rattle.paper.specs.Sizes.{sizeIn, levelsIn, planesIn, numbersIn, mostBits}
+use Rattle.paper.specs.Block.{isLabel, payloadBytes, payloadStart, checksRight, fieldsRight}
+use Rattle.paper.specs.Record.{blocksFor, wholeBlocks, blockAt, inTurn}
+use Rattle.paper.specs.Jobs.{isSquare}
+
+-- a row: its number, and whether what it asks holds; it applies where that does not hold
+pub record Row : Type 0 where
+  pub number : ℕ
+  pub holds : Bool
+
+abbrev pub row : ℕ → Bool → Row
+row r asked = record { number = r; holds = asked }
+
+-- r is the lowest number of the rows that apply, and 0 exactly where none does
+pub record Lowest (rows : List Row) (r : ℕ) : Type 0 where
+  pub none : r ≡ 0 → {w : Row} → List·Memᴰ w rows → w .holds ≡ true
+  pub least : {w : Row} → List·Memᴰ w rows → w .holds ≡ false → (0 < r) × (r ≤ w .number)
+  pub applies : 0 < r → (w : Row) × List·Memᴰ w rows × (w .holds ≡ false) × (w .number ≡ r)
+
+-- ---- the rows that each job judges
+abbrev pub forwardRows : ℕ → ℕ → List ℕ → List ℤ → List Row
+forwardRows k L picture numbers =
+    row 1 (sizeIn k) ∷ row 2 (levelsIn k L) ∷ row 3 (isSquare k (length picture) && isSquare k (length numbers)) ∷ []
+
+abbrev pub codingRows : ℕ → ℕ → List ℤ → List Row
+codingRows k L numbers = row 1 (sizeIn k) ∷ row 2 (levelsIn k L) ∷ row 3 (isSquare k (length numbers)) ∷ row 4 (numbersIn numbers) ∷ []
+
+abbrev pub decodingRows : ℕ → ℕ → ℕ → List ℤ → List ℕ → ℕ → List Row
+decodingRows k L n numbers bytes b =
+    row 1 (sizeIn k) ∷ row 2 (levelsIn k L) ∷ row 3 (isSquare k (length numbers)) ∷ row 5 (planesIn n) ∷ row 6 (leb b (8 * length bytes)) ∷ []
+
+abbrev pub inverseRows : ℕ → ℕ → List ℤ → List ℕ → List ℤ → List Row
+inverseRows k L numbers picture room =
+    row 1 (sizeIn k) ∷ row 2 (levelsIn k L)
+    ∷ row 3 (isSquare k (length numbers) && isSquare k (length picture) && isSquare k (length room)) ∷ row 4 (numbersIn numbers) ∷ []
+
+abbrev pub writingRows : ℕ → ℕ → ℕ → List ℕ → List ℕ → ℕ → List ℕ → List Row
+writingRows k L n label bytes b room =
+    row 1 (sizeIn k) ∷ row 2 (levelsIn k L) ∷ row 5 (planesIn n)
+    ∷ row 6 (leb b (8 * length bytes) && leb b (mostBits k n) && leb (512 * blocksFor b) (length room)) ∷ row 7 (isLabel label) ∷ []
+
+abbrev pub readingRows : List ℕ → List ℕ → List ℕ → List Row
+readingRows s label room =
+    row 6 (leb 512 (length s) && leb (payloadBytes payloadStart * wholeBlocks s) (length room)) ∷ row 7 (isLabel label)
+    ∷ row 8 (checksRight (blockAt s 0)) ∷ row 9 (fieldsRight payloadStart (blockAt s 0)) ∷ row 10 (inTurn s label 0) ∷ []
+
+abbrev pub checkRows : List ℕ → List Row
+checkRows block = row 6 (eqb (length block) 512) ∷ row 8 (checksRight block) ∷ row 9 (fieldsRight payloadStart block) ∷ []

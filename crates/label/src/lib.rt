@@ -1,0 +1,79 @@
+// The face of the library: the seven jobs of the paper, each once, with its complete contract.
+//
+// A grey picture goes in by forward, code and write, and comes out by read, decode and inverse; check judges one block.
+// Every call takes whatever it is given and ends. `refusal` is 0, or the lowest row of the refusal table that applies;
+// a refused call answers 0 for all else and changes nothing that it was lent.
+//
+// A contract says that the answer and every lent slice at exit equal the job's definition in paper/specs/Jobs.antt at
+// the inputs, so it leaves nothing open (proofs/Settled.antt). The three demands are proofs/Demand1.antt, Demand2.antt
+// and Demand3.antt; docs/PROMISES.md follows them sentence by sentence.
+ghost use mathlib.Core.Path.{_≡_};
+ghost use Rattle.paper.specs.Jobs.{forwardJob, codingJob, decodingJob, inverseJob, writingJob, readingJob, checkJob};
+use coding::Written;
+use decoding::Settled;
+use record::Blocks;
+use record::Kept;
+use transform::Planes;
+
+// Fills the wavelet numbers of a picture of side 2^k, in Z order, and gives n, the planes that they need.
+// Refusals 1, 2, 3.
+pub fn forward(k: u32, levels: u32, picture: &[u8], numbers: &mut [i32]) -> Planes
+    ensures { λ r. ⌜ forwardJob k levels (now (picture .entry)) (now (numbers .entry)) ≡ record { refusal = r .refusal; n = r .n; numbers = now (numbers .exit) } ⌝ }
+{
+    transform::forward(k, levels, picture, numbers)
+}
+
+// Writes the first bits of the numbers' coding, up to a limit, and gives their count and n. Spare bits of the last byte
+// written are 0; later bytes are untouched. Refusals 1, 2, 3, 4.
+pub fn code(k: u32, levels: u32, numbers: &[i32], limit: usize, bytes: &mut [u8]) -> Written
+    ensures { λ r. ⌜ codingJob k levels (now (numbers .entry)) limit (now (bytes .entry)) ≡ record { refusal = r .refusal; written = r .bits; n = r .n; bytes = now (bytes .exit) } ⌝ }
+{
+    coding::code(k, levels, numbers, limit, bytes)
+}
+
+// Writes all S² numbers: what the first b bits settle, and 0 elsewhere. Gives the unfinished planes and the bits read.
+// Refusals 1, 2, 3, 5, 6.
+pub fn decode(k: u32, levels: u32, n: u32, numbers: &mut [i32], bytes: &[u8], b: usize) -> Settled
+    ensures { λ r. ⌜ decodingJob k levels n (now (numbers .entry)) (now (bytes .entry)) b ≡ record { refusal = r .refusal; unfinished = r .unfinished; read = r .read; numbers = now (numbers .exit) } ⌝ }
+{
+    decoding::decode(k, levels, n, numbers, bytes, b)
+}
+
+// Fills the picture that the numbers give. The working room ends with the greys before they are set into 0 to 255, in
+// Z order. Refusals 1, 2, 3, 4.
+pub fn inverse(k: u32, levels: u32, numbers: &[i32], picture: &mut [u8], room: &mut [i32]) -> u32
+    ensures { λ r. ⌜ inverseJob k levels (now (numbers .entry)) (now (picture .entry)) (now (room .entry)) ≡ record { refusal = r; picture = now (picture .exit); room = now (room .exit) } ⌝ }
+{
+    transform::inverse(k, levels, numbers, picture, room)
+}
+
+// Writes the record of the first b bits at the front of the room, and gives its count of blocks; later bytes are
+// untouched. Refusals 1, 2, 5, 6, 7.
+pub fn write(
+    k: u32,
+    levels: u32,
+    n: u32,
+    label: &[u8],
+    bytes: &[u8],
+    b: usize,
+    room: &mut [u8],
+) -> Blocks
+    ensures { λ r. ⌜ writingJob k levels n (now (label .entry)) (now (bytes .entry)) b (now (room .entry)) ≡ record { refusal = r .refusal; blocks = r .blocks; room = now (room .exit) } ⌝ }
+{
+    record::write(k, levels, n, label, bytes, b, room)
+}
+
+// Keeps the longest run of good blocks from the front: gives k, L, n, the blocks kept, their bits and the number that
+// ended the run, and lays their payload at the front of the room; later bytes are untouched. Refusals 6, 7, 8, 9, 10.
+pub fn read(blocks: &[u8], label: &[u8], room: &mut [u8]) -> Kept
+    ensures { λ r. ⌜ readingJob (now (blocks .entry)) (now (label .entry)) (now (room .entry)) ≡ record { refusal = r .refusal; k = r .k; L = r .levels; n = r .n; blocks = r .blocks; bits = r .bits; ended = r .ended; room = now (room .exit) } ⌝ }
+{
+    record::read(blocks, label, room)
+}
+
+// Judges a single block: 0, or 6, 8 or 9.
+pub fn check(block: &[u8]) -> u32
+    ensures { λ r. ⌜ r ≡ checkJob (now (block .entry)) ⌝ }
+{
+    block::check(block)
+}

@@ -1,0 +1,2 @@
+-- The laws of levels in lent memory.
+pub mod Quarters

@@ -1,0 +1,2 @@
+-- What the contracts of levels cite.
+pub mod Level

@@ -1,0 +1,5 @@
+-- How large numbers may be so that a step of the 5/3 rule fits 32 bits.
+use Prim.Native.Nat.{ℕ, _^_}
+
+abbrev pub stepLimit : ℕ
+stepLimit = 2 ^ 29

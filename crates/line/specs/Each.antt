@@ -1,0 +1,14 @@
+-- How large the numbers of a line may be.
+use Prim.Native.Nat.{ℕ, _^_}
+use mathlib.Core.List.{List}
+use lib.IntN.{ℤ}
+use Rattle.paper.specs.Lists.{at}
+use Rattle.integers.specs.Order.{Within}
+
+-- each number of a list is at most B in size; past the end stands 0
+abbrev pub Each : ℕ → List ℤ → Type 0
+Each B xs = (i : ℕ) → Within B (at xs i)
+
+-- numbers up to this size go through a line both ways within 32 bits
+abbrev pub lineLimit : ℕ
+lineLimit = 2 ^ 28

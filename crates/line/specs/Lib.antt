@@ -1,0 +1,2 @@
+-- The notions that the contracts of lines cite.
+pub mod Each

@@ -1,0 +1,3 @@
+-- The laws of a pass.
+pub mod Lines
+pub mod Passes

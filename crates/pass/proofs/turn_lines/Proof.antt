@@ -1,0 +1,76 @@
+-- `pass::turn_lines` meets its contract. After l turns the first l lines are turned.
+use mathlib.Core.Path.{_≡_, _∙_}
+use Prim.Native.Nat.{_≤_, _<_, _-_, _^_}
+use native.Mathlib.Omega.{arith}
+use lib.ListN.{length}
+use Rattle.square.specs.Sizes.{line-each}
+use Rattle.pass.specs.Way.{way}
+use Rattle.pass.proofs.Passes.{Passed, passed-none, passed-line, passed-more, passed-all}
+use borrow.Author.Needs.{needs}
+use Rattle.pass.proofs.turn_lines.Statement.{statement}
+use Rattle.pass.proofs.turn_lines.Tie as tie
+
+abbrev Inv-loop : tie.InvT-loop
+Inv-loop j down back xs₀ a₀ b₀ l₀ xs a b l =
+    (l ≤ 2 ^ j) × (length a ≡ 2 ^ j) × (length b ≡ 2 ^ j) × Passed (way back) j down l xs₀ xs
+
+abbrev μ-loop : tie.MeasureT-loop
+μ-loop j down back xs₀ a₀ b₀ l₀ xs a b l = 2 ^ j - l
+
+loop-holds : tie.Need-loop-holds Inv-loop μ-loop
+loop-holds c = (omega arith, c .pre .1 .1 .1 .1 .0, c .pre .1 .1 .1 .1 .1, passed-none _ _ _ _)
+
+turn-line-requires : tie.Need-turn-line-requires Inv-loop μ-loop
+turn-line-requires c κs =
+    let t = c .before .before .before .before in
+    let s = t .before in
+    let a = s .args in
+    let p = s .pre in
+    let P = t .loop .inv .3 in
+    let b : t .loop .l < 2 ^ a .j = omega arith in
+    let e = passed-line (way (a .back)) (a .j) (a .down) (t .loop .l) (a .xs .now) (t .loop .xs) b P in
+    (p .0, (p .1 .0, (b, (P .size ∙ p .1 .1 .0, (rw e (line-each (a .j) (a .down) (a .xs .now) (t .loop .l) (p .1 .1 .1 .0)), (t .loop .inv .1, t .loop .inv .2))))))
+
+add-l : tie.Need-add-l Inv-loop μ-loop
+add-l c = omega arith
+
+loop-less : tie.Need-loop-less Inv-loop μ-loop
+loop-less c = omega arith
+
+loop-again : tie.Need-loop-again Inv-loop μ-loop
+loop-again c =
+    let r = c .before .before .before in
+    let t = r .before .before .before .before .before in
+    let a = t .before .args in
+    (omega arith, search needs, search needs, passed-more (way (a .back)) (a .j) (a .down) (t .loop .l) (a .xs .now) (t .loop .xs) _ (omega arith) (t .loop .inv .3) (r .turn-line .ensures))
+
+same-length : tie.Need-same-length Inv-loop μ-loop
+same-length c = omega arith
+
+same-length-2 : tie.Need-same-length-2 Inv-loop μ-loop
+same-length-2 c = omega arith
+
+same-length-3 : tie.Need-same-length-3 Inv-loop μ-loop
+same-length-3 c = omega arith
+
+returns : tie.Need-returns Inv-loop μ-loop
+returns c =
+    let s = c .before .before in
+    let q : c .before .loop .l ≡ 2 ^ s .args .j = omega arith in
+    passed-all _ (s .args .j) (s .args .down) _ _ (s .pre .1 .1 .0) (rw q at (c .before .loop .inv .3))
+
+pub turn-lines-spec : {M : Type 1} → statement M
+turn-lines-spec =
+    tie.close
+    (tie.spec
+    Inv-loop
+    μ-loop
+    loop-holds
+    turn-line-requires
+    add-l
+    loop-less
+    loop-again
+    same-length
+    same-length-2
+    same-length-3
+    returns)

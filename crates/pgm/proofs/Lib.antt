@@ -1,0 +1,3 @@
+-- Laws of the header's definitions.
+pub mod Steps
+pub mod Fields

@@ -1,0 +1,2 @@
+-- Laws of the refusal table.
+pub mod Laws

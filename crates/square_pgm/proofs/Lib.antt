@@ -1,0 +1,3 @@
+-- Laws of the header written.
+pub mod Laws
+pub mod Back

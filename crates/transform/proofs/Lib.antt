@@ -1,0 +1,3 @@
+-- The laws of the two jobs.
+pub mod Refusals
+pub mod Fits

@@ -1,0 +1,52 @@
+-- `transform::to_greys` meets its contract.
+use mathlib.Core.Path.{_≡_, sym, ap, _∙_}
+use native.Mathlib.Omega.{arith}
+use lib.ListN.{length}
+use Rattle.paper.specs.Square.{levelsBack, raised, greysOf}
+use Rattle.sizes.proofs.Ranges.{size-high, levels-few, levels-less}
+use Rattle.square.specs.Undone.{length-levels-back}
+use Rattle.square.specs.Numbers.{backs-each}
+use Rattle.transform.proofs.Fits.{numbers-fit, numbers-small}
+use Rattle.transform.proofs.to_greys.Statement.{statement}
+use Rattle.transform.proofs.to_greys.Tie as tie
+
+abbrev start : tie.After-back → tie.Start
+start v = v .before .before .before .before .before
+
+-- what the room holds after the levels
+done : (v : tie.After-back) → v .back .last .1 .1 .0 ≡ levelsBack (start v .args .levels) (start v .args .k) (start v .args .numbers .now)
+done v = v .back .ensures ∙ ap (levelsBack (start v .args .levels) (start v .args .k)) (v .before .before .before .copy .ensures)
+
+copy-requires : tie.Need-copy-requires
+copy-requires c κs = let s = c .before in let p = s .pre in (p .1 .1 .1 .1 ∙ sym (p .1 .1 .0), numbers-small (s .args .numbers .now) (p .1 .1 .1 .0))
+
+back-requires : tie.Need-back-requires
+back-requires c κs =
+    let v = c .before .before in
+    let s = v .before .before in
+    let a = s .args in
+    let p = s .pre in
+    let e = v .copy .ensures in
+    (size-high (a .k) (p .0), (omega (arith, levels-less (a .k) (a .levels) (p .1 .0)), (ap length e ∙ p .1 .1 .0, rw e (numbers-fit (a .k) (a .levels) (a .numbers .now) (p .1 .0) (p .1 .1 .1 .0)))))
+
+raise-requires : tie.Need-raise-requires
+raise-requires c κs =
+    let v = c .before .before in
+    let s = start v in
+    let a = s .args in
+    let p = s .pre in
+    rw (done v) (backs-each (a .levels) (a .k) (a .numbers .now) (levels-few (a .k) (a .levels) (p .1 .0)) (omega (arith, levels-less (a .k) (a .levels) (p .1 .0))) (p .1 .1 .0) (p .1 .1 .1 .0))
+
+same-length : tie.Need-same-length
+same-length c = omega arith
+
+returns : tie.Need-returns
+unfolding greysOf
+returns c =
+    let w = c .before in
+    let v = w .before .before .before in
+    let a = start v .args in
+    w .raise .ensures (a .k) (ap length (done v) ∙ length-levels-back (a .levels) (a .k) (a .numbers .now) (start v .pre .1 .1 .0)) ∙ ap (raised (a .k)) (done v)
+
+pub to-greys-spec : {M : Type 1} → statement M
+to-greys-spec = tie.close (tie.spec copy-requires back-requires raise-requires same-length returns)

@@ -1,0 +1,10 @@
+pub mod Cleared
+pub mod Asks
+pub mod Together
+pub mod Plane
+pub mod Planes
+pub mod Decoded
+pub mod Bound
+pub mod Finished
+pub mod Read
+pub mod Room

@@ -1,0 +1,3 @@
+-- Laws of a line and of a number in decimal.
+pub mod Laws
+pub mod Decimal

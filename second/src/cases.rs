@@ -1,0 +1,380 @@
+//! Random requests for all seven jobs, good and bad, each of them determined
+//! by the seed, its number and the options alone.
+
+use crate::bits;
+use crate::block::{self, LENGTH, PAYLOAD_BITS, PAYLOAD_LENGTH};
+use crate::damage;
+use crate::random::Random;
+use crate::record;
+use crate::samples;
+use crate::sizes::{self, Sizes, LARGEST_MAGNITUDE, MOST_PLANES};
+use crate::transcript::{Request, MOST_BYTES, MOST_NUMBERS};
+
+pub struct Options {
+    /// The jobs to make requests for, by their numbers 1 to 7.
+    pub jobs: Vec<u8>,
+    /// The largest k of a good request, 3 to 8.
+    pub largest: u32,
+}
+
+pub fn case(seed: u64, number: u64, options: &Options) -> Request {
+    let random = &mut Random::new(seed, number);
+    let largest = options.largest;
+    match random.pick(&options.jobs) {
+        1 => forward(random, largest),
+        2 => coding(random, largest),
+        3 => decoding(random, largest),
+        4 => inverse(random, largest),
+        5 => record_writing(random, largest),
+        6 => record_reading(random, largest),
+        _ => block_check(random, largest),
+    }
+}
+
+/// How many things to spoil in a request that is good so far.
+fn spoils(random: &mut Random) -> u32 {
+    random.pick(&[0, 0, 0, 0, 0, 0, 0, 0, 0, 1, 1, 1, 1, 2, 2, 3])
+}
+
+/// The k and L that are sent, and the sizes that all else is made for.
+struct Sent {
+    sizes: Sizes,
+    k: u32,
+    levels: u32,
+}
+
+impl Sent {
+    fn new(random: &mut Random, largest: u32) -> Sent {
+        let sizes = samples::sizes(random, largest);
+        Sent {
+            sizes,
+            k: sizes.k(),
+            levels: sizes.levels(),
+        }
+    }
+
+    /// Some wrong values are right in their low byte, or as a shift count.
+    fn spoil_k(&mut self, random: &mut Random) {
+        let low_byte = 256 + self.sizes.k();
+        self.k = random.pick(&[0, 1, 2, 9, 10, 16, 32, 64, 255, low_byte, 1 << 31, u32::MAX]);
+    }
+
+    fn spoil_levels(&mut self, random: &mut Random) {
+        let low_byte = 256 + self.sizes.levels();
+        let over = sizes::most_levels(self.sizes.k()) + 1;
+        self.levels = random.pick(&[0, over, over, 6, 32, low_byte, 1 << 31, u32::MAX]);
+    }
+
+    fn spoil(&mut self, random: &mut Random) {
+        if random.one_in(2) {
+            self.spoil_k(random);
+        } else {
+            self.spoil_levels(random);
+        }
+    }
+}
+
+/// A length other than the right one, most often near it.
+fn wrong_length(random: &mut Random, right: usize, most: usize) -> usize {
+    let anything = random.index(2 * right + 9);
+    let near = [right + 1, right.saturating_sub(1)];
+    let far = [0, 1, right / 4, right + right / 2, anything];
+    let length = if random.one_in(2) {
+        random.pick(&near)
+    } else {
+        random.pick(&far)
+    };
+    if length == right {
+        right + 1
+    } else {
+        length.min(most)
+    }
+}
+
+/// Gives a list of greys or numbers a wrong length.
+fn spoil_list<T: Clone + From<u8>>(random: &mut Random, list: &mut Vec<T>) {
+    let length = wrong_length(random, list.len(), MOST_NUMBERS);
+    list.resize(length, random.byte().into());
+}
+
+/// Puts a number beyond the limits somewhere.
+fn spoil_number(random: &mut Random, numbers: &mut [i32]) {
+    let anything = (random.draw() as i32) | (1 << 18);
+    let beyond = random.pick(&[
+        LARGEST_MAGNITUDE + 1,
+        -LARGEST_MAGNITUDE - 1,
+        i32::MIN,
+        i32::MAX,
+        anything.max(LARGEST_MAGNITUDE + 1),
+        (-1 - anything).min(-LARGEST_MAGNITUDE - 1),
+    ]);
+    if !numbers.is_empty() {
+        let last = numbers.len() - 1;
+        let anywhere = random.index(numbers.len());
+        numbers[random.pick(&[0, last, anywhere])] = beyond;
+    }
+}
+
+fn wrong_planes(random: &mut Random) -> u32 {
+    random.pick(&[MOST_PLANES + 1, 20, 31, 32, 255, 256 + 3, 1 << 31, u32::MAX])
+}
+
+/// A count of bits that these bytes do not hold.
+fn beyond(random: &mut Random, bytes: &[u8]) -> u64 {
+    let lent = 8 * bytes.len() as u64;
+    let by = 1 + random.below(5_000);
+    random.pick(&[
+        lent + 1,
+        lent + 8,
+        lent + by,
+        1 << 61,
+        (1 << 61) + lent,
+        u64::MAX,
+    ])
+}
+
+/// A part of so many bits: none, one, all, all but one, or any part, on a byte
+/// or between.
+fn cut(random: &mut Random, total: u64) -> u64 {
+    let anywhere = random.below(total + 1);
+    let part = random.pick(&[0, 1, total, total, total.saturating_sub(1), anywhere]);
+    let on_byte = random.one_in(6);
+    if on_byte {
+        anywhere / 8 * 8
+    } else {
+        part.min(total)
+    }
+}
+
+fn forward(random: &mut Random, largest: u32) -> Request {
+    let mut sent = Sent::new(random, largest);
+    let mut picture = samples::picture(random, sent.sizes);
+    let mut numbers = sent.sizes.places();
+    for _ in 0..spoils(random) {
+        match random.below(3) {
+            0 => sent.spoil(random),
+            1 => spoil_list(random, &mut picture),
+            _ => numbers = wrong_length(random, numbers, MOST_NUMBERS),
+        }
+    }
+    Request::Forward {
+        k: sent.k,
+        levels: sent.levels,
+        picture,
+        numbers,
+    }
+}
+
+fn coding(random: &mut Random, largest: u32) -> Request {
+    let mut sent = Sent::new(random, largest);
+    let mut numbers = samples::numbers(random, sent.sizes);
+    let total = samples::coding(sent.sizes, &numbers).count;
+    let whole = bits::bytes_for(total);
+    let part = cut(random, whole as u64) as usize;
+    let surplus = random.index(20);
+    let bytes = random.pick(&[whole, whole, whole + 1, whole + surplus, part]);
+    let lent = 8 * bytes as u64;
+    let part = cut(random, total);
+    let limit = random.pick(&[
+        u64::MAX,
+        total,
+        total + 1,
+        lent,
+        lent + 1,
+        lent.saturating_sub(1),
+        part,
+        part,
+    ]);
+    for _ in 0..spoils(random) {
+        match random.below(3) {
+            0 => sent.spoil(random),
+            1 => spoil_list(random, &mut numbers),
+            _ => spoil_number(random, &mut numbers),
+        }
+    }
+    Request::Coding {
+        k: sent.k,
+        levels: sent.levels,
+        numbers,
+        limit,
+        bytes,
+    }
+}
+
+fn decoding(random: &mut Random, largest: u32) -> Request {
+    let mut sent = Sent::new(random, largest);
+    let samples::Bits {
+        mut planes,
+        mut bytes,
+        count: total,
+    } = samples::bits(random, sent.sizes);
+    let mut count = cut(random, total);
+    match random.below(4) {
+        0 => bytes.truncate(bits::bytes_for(count)),
+        1 => {
+            // Bits after the walk's last, which it must not read.
+            let surplus = random.index(9);
+            bytes.extend(random.bytes(surplus));
+            count = 8 * bytes.len() as u64;
+        }
+        _ => {}
+    }
+    let mut numbers = sent.sizes.places();
+    for _ in 0..spoils(random) {
+        match random.below(4) {
+            0 => sent.spoil(random),
+            1 => numbers = wrong_length(random, numbers, MOST_NUMBERS),
+            2 => planes = wrong_planes(random),
+            _ => count = beyond(random, &bytes),
+        }
+    }
+    Request::Decoding {
+        k: sent.k,
+        levels: sent.levels,
+        planes,
+        numbers,
+        bytes,
+        count,
+    }
+}
+
+fn inverse(random: &mut Random, largest: u32) -> Request {
+    let mut sent = Sent::new(random, largest);
+    let mut numbers = samples::numbers(random, sent.sizes);
+    let mut picture = sent.sizes.places();
+    let mut room = sent.sizes.places();
+    for _ in 0..spoils(random) {
+        match random.below(5) {
+            0 => sent.spoil(random),
+            1 => spoil_list(random, &mut numbers),
+            2 => picture = wrong_length(random, picture, MOST_NUMBERS),
+            3 => room = wrong_length(random, room, MOST_NUMBERS),
+            _ => spoil_number(random, &mut numbers),
+        }
+    }
+    Request::Inverse {
+        k: sent.k,
+        levels: sent.levels,
+        numbers,
+        picture,
+        room,
+    }
+}
+
+/// A count of bits that is at the bound of the walk or beyond it by `by`, with
+/// bytes that hold it.
+fn to_the_bound(random: &mut Random, most: u64, by: u64, bytes: &mut Vec<u8>) -> u64 {
+    let count = most + by;
+    let missing = bits::bytes_for(count).saturating_sub(bytes.len());
+    bytes.extend(samples::payload(random, missing));
+    count
+}
+
+fn record_writing(random: &mut Random, largest: u32) -> Request {
+    let mut sent = Sent::new(random, largest);
+    let samples::Bits {
+        mut planes,
+        mut bytes,
+        count: total,
+    } = samples::bits(random, sent.sizes);
+    let most = sent.sizes.most_bits(planes);
+    let full = u64::from(PAYLOAD_BITS);
+    let mut count = match random.below(6) {
+        0 => to_the_bound(random, most, 0, &mut bytes),
+        1 if total > full => {
+            let near = full * (1 + random.below(total / full)) - 1 + random.below(3);
+            near.min(total)
+        }
+        _ => cut(random, total),
+    }
+    .min(most);
+    let mut label = samples::label(random);
+    let surplus = random.index(2 * LENGTH);
+    let wanted = record::block_count(count) as usize * LENGTH;
+    let mut room = wanted + random.pick(&[0, 0, 1, surplus]);
+    for _ in 0..spoils(random) {
+        match random.below(6) {
+            0 => sent.spoil(random),
+            1 => planes = wrong_planes(random),
+            2 => count = beyond(random, &bytes),
+            3 => {
+                let by = random.pick(&[1, 2, 8, 64, full]);
+                count = to_the_bound(random, most, by, &mut bytes);
+                room = record::block_count(count) as usize * LENGTH;
+            }
+            4 => {
+                let short = 1 + random.index(wanted);
+                room = wanted - random.pick(&[1, short, LENGTH, wanted]);
+            }
+            _ => label = samples::wrong_label(random),
+        }
+    }
+    Request::RecordWriting {
+        k: sent.k,
+        levels: sent.levels,
+        planes,
+        label,
+        bytes,
+        count,
+        room,
+    }
+}
+
+fn record_reading(random: &mut Random, largest: u32) -> Request {
+    let (mut record, mut label) = damage::whole_record(random, largest);
+    for _ in 0..random.pick(&[0, 0, 0, 1, 1, 1, 1, 2, 3]) {
+        damage::damage_record(random, largest, &mut record);
+    }
+    let mut blocks = record.concat();
+    match random.below(8) {
+        0 => {
+            let anywhere = random.index(blocks.len() + 1);
+            let on_block = anywhere / LENGTH * LENGTH;
+            blocks.truncate(random.pick(&[anywhere, on_block, on_block.saturating_sub(1)]));
+        }
+        1 => {
+            let tail = random.index(LENGTH);
+            blocks.extend(random.bytes(tail));
+        }
+        _ => {}
+    }
+    let wanted = blocks.len() / LENGTH * PAYLOAD_LENGTH;
+    let surplus = random.index(2 * PAYLOAD_LENGTH);
+    let mut room = wanted + random.pick(&[0, 0, 1, surplus]);
+    // Half the time the blocks alone decide.
+    let spoils = if random.one_in(2) { spoils(random) } else { 0 };
+    for _ in 0..spoils {
+        match random.below(4) {
+            0 => {
+                let few = random.index(LENGTH);
+                blocks.truncate(random.pick(&[0, 1, few, LENGTH - 1]));
+            }
+            1 => room = wanted.saturating_sub(1 + random.index(wanted + 1)),
+            2 => label = samples::wrong_label(random),
+            _ => label = samples::label(random),
+        }
+    }
+    Request::RecordReading {
+        blocks,
+        label,
+        room,
+    }
+}
+
+fn block_check(random: &mut Random, largest: u32) -> Request {
+    let (record, _) = damage::whole_record(random, largest);
+    let mut block = random.pick(&record);
+    for _ in 0..random.pick(&[0, 1, 1, 1, 2]) {
+        damage::damage_block(random, &mut block);
+    }
+    if random.one_in(20) {
+        block.copy_from_slice(&random.bytes(LENGTH));
+        block::write_checks(&mut block);
+    }
+    let mut block = block.to_vec();
+    if random.one_in(8) {
+        let length = wrong_length(random, LENGTH, MOST_BYTES);
+        block.resize(random.pick(&[length, 2 * LENGTH]), 0);
+    }
+    Request::BlockCheck { block }
+}

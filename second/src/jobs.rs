@@ -1,0 +1,119 @@
+//! The seven jobs: each makes the checks it has inputs for, lowest refusal
+//! number first, and touches lent memory only when none of them refuses.
+
+use crate::bits;
+use crate::block;
+use crate::record::{self, Kept};
+use crate::refusal::Refusal;
+use crate::sizes::{self, Sizes};
+use crate::transform;
+use crate::walk;
+
+/// Fills the wavelet numbers and gives n.
+pub fn forward(k: u32, levels: u32, picture: &[u8], numbers: &mut [i32]) -> Result<u32, Refusal> {
+    let sizes = Sizes::new(k, levels)?;
+    sizes.check_length(picture.len())?;
+    sizes.check_length(numbers.len())?;
+    transform::forward(sizes, picture, numbers);
+    Ok(sizes::plane_count(numbers))
+}
+
+#[derive(Clone, Copy, Debug, Default, PartialEq, Eq)]
+pub struct Coded {
+    pub bits: u64,
+    pub planes: u32,
+}
+
+/// Writes the first bits of the coding and gives their count and n.
+pub fn coding(
+    k: u32,
+    levels: u32,
+    numbers: &[i32],
+    limit: u64,
+    bytes: &mut [u8],
+) -> Result<Coded, Refusal> {
+    let sizes = Sizes::new(k, levels)?;
+    sizes.check_length(numbers.len())?;
+    sizes::check_magnitudes(numbers)?;
+    let planes = sizes::plane_count(numbers);
+    let bits = walk::code(sizes, planes, numbers, limit, bytes);
+    Ok(Coded { bits, planes })
+}
+
+#[derive(Clone, Copy, Debug, Default, PartialEq, Eq)]
+pub struct Decoded {
+    pub unfinished: u32,
+    pub bits_read: u64,
+}
+
+/// Writes all numbers that the first `count` bits settle.
+pub fn decoding(
+    k: u32,
+    levels: u32,
+    planes: u32,
+    numbers: &mut [i32],
+    bytes: &[u8],
+    count: u64,
+) -> Result<Decoded, Refusal> {
+    let sizes = Sizes::new(k, levels)?;
+    sizes.check_length(numbers.len())?;
+    sizes::check_planes(planes)?;
+    Refusal::Room.when(!bits::hold(bytes, count))?;
+    let (unfinished, bits_read) = walk::decode(sizes, planes, numbers, bytes, count);
+    Ok(Decoded {
+        unfinished,
+        bits_read,
+    })
+}
+
+/// Fills the picture, and the room with the greys before they are set into 0
+/// to 255.
+pub fn inverse(
+    k: u32,
+    levels: u32,
+    numbers: &[i32],
+    picture: &mut [u8],
+    room: &mut [i32],
+) -> Result<(), Refusal> {
+    let sizes = Sizes::new(k, levels)?;
+    for length in [numbers.len(), picture.len(), room.len()] {
+        sizes.check_length(length)?;
+    }
+    sizes::check_magnitudes(numbers)?;
+    transform::inverse(sizes, numbers, picture, room);
+    Ok(())
+}
+
+/// Writes the record of the first `count` bits and gives its blocks.
+pub fn record_writing(
+    k: u32,
+    levels: u32,
+    planes: u32,
+    label: &[u8],
+    bytes: &[u8],
+    count: u64,
+    room: &mut [u8],
+) -> Result<u32, Refusal> {
+    let sizes = Sizes::new(k, levels)?;
+    sizes::check_planes(planes)?;
+    Refusal::Room.when(!bits::hold(bytes, count) || count > sizes.most_bits(planes))?;
+    let wanted = record::block_count(count) as usize * block::LENGTH;
+    Refusal::Room.when(room.len() < wanted)?;
+    Refusal::Label.when(!block::is_label(label))?;
+    let heading = block::heading(sizes, planes, label);
+    Ok(record::write(&heading, bytes, count, room))
+}
+
+/// Keeps what can be kept of a record's blocks.
+pub fn record_reading(blocks: &[u8], label: &[u8], room: &mut [u8]) -> Result<Kept, Refusal> {
+    let whole = blocks.len() / block::LENGTH;
+    Refusal::Room.when(whole == 0 || room.len() / block::PAYLOAD_LENGTH < whole)?;
+    Refusal::Label.when(!block::is_label(label))?;
+    record::read(blocks, label, room)
+}
+
+/// Judges one block by itself: 6, 8 or 9.
+pub fn block_check(block: &[u8]) -> Result<(), Refusal> {
+    Refusal::Room.when(block.len() != block::LENGTH)?;
+    block::check(block)
+}

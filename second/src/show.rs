@@ -1,0 +1,192 @@
+//! One readable line per request: its job, its sizes, and what is special
+//! about it.
+
+use crate::block::{self, LENGTH};
+use crate::jobs;
+use crate::sizes::{self, Sizes};
+use crate::transcript::{self, Field, Request};
+
+/// A slice's length, with the right one where it is another.
+fn length(name: &str, length: usize, sizes: Option<Sizes>) -> String {
+    match sizes.map(Sizes::places) {
+        Some(places) if places != length => format!("{} {} (not {})", name, length, places),
+        _ => format!("{} {}", name, length),
+    }
+}
+
+fn greys(picture: &[u8]) -> String {
+    match (picture.iter().min(), picture.iter().max()) {
+        (Some(least), Some(most)) if least == most => format!("all greys {}", least),
+        (Some(least), Some(most)) => format!("greys {} to {}", least, most),
+        _ => "no greys".to_string(),
+    }
+}
+
+fn magnitudes(numbers: &[i32]) -> String {
+    let set = numbers.iter().filter(|number| **number != 0).count();
+    let least = numbers.iter().min().copied().unwrap_or(0);
+    let most = numbers.iter().max().copied().unwrap_or(0);
+    let beyond = numbers
+        .iter()
+        .position(|number| sizes::check_magnitudes(&[*number]).is_err());
+    let beyond = beyond.map_or(String::new(), |place| {
+        format!(", place {} is {}", place, numbers[place])
+    });
+    format!("{} not zero, {} to {}{}", set, least, most, beyond)
+}
+
+fn label_text(label: &[u8]) -> String {
+    format!("label \"{}\"", label.escape_ascii())
+}
+
+/// A block as its own fields and the single-block check say.
+fn block_text(block: &[u8]) -> String {
+    let [k, levels, planes] = block::sizes_field(block);
+    let judged = jobs::block_check(block).map_or_else(|refusal| refusal.number(), |()| 0);
+    format!(
+        "number {} k {} L {} n {} {} bits {} check {}",
+        block::field(block, block::NUMBER),
+        k,
+        levels,
+        planes,
+        label_text(&block[block::LABEL]),
+        block::field(block, block::COUNT),
+        judged
+    )
+}
+
+/// The whole blocks one by one, as far as a line has room for.
+fn blocks_text(blocks: &[u8]) -> String {
+    const SHOWN: usize = 8;
+    let whole = blocks.chunks_exact(LENGTH);
+    let tail = whole.remainder().len();
+    let more = whole.len().saturating_sub(SHOWN);
+    let mut parts: Vec<String> = whole.take(SHOWN).map(block_text).collect();
+    if more > 0 {
+        parts.push(format!("{} more blocks", more));
+    }
+    if tail > 0 {
+        parts.push(format!("a tail of {} bytes", tail));
+    }
+    format!("{} bytes: {}", blocks.len(), parts.join("; "))
+}
+
+fn given(request: &Request) -> String {
+    match request {
+        Request::Forward {
+            k,
+            levels,
+            picture,
+            numbers,
+        } => {
+            let sizes = Sizes::new(*k, *levels).ok();
+            format!(
+                "forward k {} L {}, {}, {}, {}",
+                k,
+                levels,
+                length("picture", picture.len(), sizes),
+                greys(picture),
+                length("numbers", *numbers, sizes)
+            )
+        }
+        Request::Coding {
+            k,
+            levels,
+            numbers,
+            limit,
+            bytes,
+        } => {
+            let sizes = Sizes::new(*k, *levels).ok();
+            format!(
+                "coding k {} L {}, {}, {}, limit {}, bytes {}",
+                k,
+                levels,
+                length("numbers", numbers.len(), sizes),
+                magnitudes(numbers),
+                limit,
+                bytes
+            )
+        }
+        Request::Decoding {
+            k,
+            levels,
+            planes,
+            numbers,
+            bytes,
+            count,
+        } => {
+            let sizes = Sizes::new(*k, *levels).ok();
+            format!(
+                "decoding k {} L {} n {}, {}, b {} of bytes {}",
+                k,
+                levels,
+                planes,
+                length("numbers", *numbers, sizes),
+                count,
+                bytes.len()
+            )
+        }
+        Request::Inverse {
+            k,
+            levels,
+            numbers,
+            picture,
+            room,
+        } => {
+            let sizes = Sizes::new(*k, *levels).ok();
+            format!(
+                "inverse k {} L {}, {}, {}, {}, {}",
+                k,
+                levels,
+                length("numbers", numbers.len(), sizes),
+                magnitudes(numbers),
+                length("picture", *picture, sizes),
+                length("room", *room, sizes)
+            )
+        }
+        Request::RecordWriting {
+            k,
+            levels,
+            planes,
+            label,
+            bytes,
+            count,
+            room,
+        } => format!(
+            "record writing k {} L {} n {}, {}, b {} of bytes {}, room {}",
+            k,
+            levels,
+            planes,
+            label_text(label),
+            count,
+            bytes.len(),
+            room
+        ),
+        Request::RecordReading {
+            blocks,
+            label,
+            room,
+        } => format!(
+            "record reading {}, room {}, {}",
+            label_text(label),
+            room,
+            blocks_text(blocks)
+        ),
+        Request::BlockCheck { block } if block.len() == LENGTH => {
+            format!("block check, {}", block_text(block))
+        }
+        Request::BlockCheck { block } => format!("block check, {} bytes", block.len()),
+    }
+}
+
+/// The request, and what the second program answers besides lent slices.
+pub fn line(request: &Request) -> String {
+    let answer = transcript::answer(request);
+    let values = answer.iter().filter_map(|(name, field)| match field {
+        Field::Small(value) => Some(format!("{} {}", name, value)),
+        Field::Large(value) => Some(format!("{} {}", name, value)),
+        Field::Bytes(_) | Field::Numbers(_) => None,
+    });
+    let values: Vec<String> = values.collect();
+    format!("{} => {}", given(request), values.join(", "))
+}

@@ -1,0 +1,172 @@
+//! The paper's table "Checked by hand", every row and sentence of it.
+
+use crate::naive;
+use crate::steps::{self, sizes};
+use second::block;
+use second::jobs;
+use second::places::{RasterPlace, ZPlace};
+use second::refusal::Refusal;
+use second::samples::{self, Bits};
+use second::transform;
+
+/// P3's coding: S 8, L 2, place 0 is 5, rest 0.
+fn p3() -> Bits {
+    let sizes = sizes(3, 2);
+    samples::coding(sizes, &steps::one_number(sizes, 0, 5))
+}
+
+/// P3 cut to so many bits gives this number at place 0 and this p.
+fn check_cut_of_p3(count: u64, number: i32, unfinished: u32) {
+    let sizes = sizes(3, 2);
+    let (numbers, decoded) = steps::decode(sizes, &p3(), count);
+    assert_eq!(numbers, steps::one_number(sizes, 0, number));
+    assert_eq!(decoded.unfinished, unfinished);
+    assert_eq!(decoded.bits_read, count);
+}
+
+#[test]
+fn p1() {
+    assert_eq!(transform::forward_line(&[1, 2, 3, 4]), [1, 3, 0, 1]);
+}
+
+#[test]
+fn p2() {
+    assert_eq!(transform::forward_line(&[0, -1, -1, 0]), [0, -1, 0, 1]);
+}
+
+#[test]
+fn p3_is_17_bits() {
+    let bits = p3();
+    assert_eq!((bits.planes, bits.count), (3, 17));
+    assert_eq!(bits.bytes, [0xC0, 0x08, 0x00]);
+}
+
+#[test]
+fn p4() {
+    check_cut_of_p3(2, 0, 3);
+}
+
+#[test]
+fn p5() {
+    check_cut_of_p3(3, 4, 3);
+}
+
+#[test]
+fn p6() {
+    check_cut_of_p3(7, 4, 2);
+}
+
+#[test]
+fn p7() {
+    check_cut_of_p3(13, 5, 1);
+}
+
+#[test]
+fn p8() {
+    let sizes = sizes(3, 2);
+    let bits = samples::coding(sizes, &steps::one_number(sizes, 15, -3));
+    assert_eq!((bits.planes, bits.count), (2, 19));
+    assert_eq!(bits.bytes, [0x48, 0xC0, 0x40]);
+}
+
+#[test]
+fn p9_at_every_size() {
+    for sizes in steps::all_sizes() {
+        let picture = vec![128; sizes.places()];
+        let (numbers, planes) = steps::forward(sizes, &picture);
+        assert_eq!(numbers, vec![0; sizes.places()]);
+        assert_eq!(planes, 0);
+        let bits = samples::coding(sizes, &numbers);
+        assert_eq!((bits.planes, bits.count), (0, 0));
+        let (decoded_numbers, decoded) = steps::decode(sizes, &bits, 0);
+        assert_eq!(decoded_numbers, numbers);
+        assert_eq!(decoded.unfinished, 0);
+    }
+}
+
+#[test]
+fn p10() {
+    let sizes = sizes(3, 2);
+    let (numbers, planes) = steps::forward(sizes, &[255; 64]);
+    assert_eq!(numbers[..4], [127; 4]);
+    assert_eq!(numbers[4..], [0; 60]);
+    assert_eq!(planes, 7);
+}
+
+#[test]
+fn p11_and_the_place_that_the_text_names() {
+    assert_eq!(RasterPlace::at(6, 7, 3).to_z(3), ZPlace(61));
+    assert_eq!(RasterPlace::at(7, 0, 3).to_z(3), ZPlace(42));
+}
+
+#[test]
+fn z_places_are_those_of_the_quadrants() {
+    for k in 3..=8 {
+        let side = 1 << k;
+        for row in 0..side {
+            for column in 0..side {
+                let z = RasterPlace::at(row, column, k).to_z(k);
+                assert_eq!(z.0, naive::z_place(row, column, side));
+            }
+        }
+    }
+}
+
+#[test]
+fn magnitude_262_143_is_coded_and_the_next_refused() {
+    let sizes = sizes(3, 2);
+    for number in [262_143, -262_143] {
+        let numbers = steps::one_number(sizes, 9, number);
+        let bits = samples::coding(sizes, &numbers);
+        assert_eq!(bits.planes, 18);
+        assert_eq!(steps::decode(sizes, &bits, bits.count).0, numbers);
+        assert!(steps::inverse(sizes, &numbers).is_ok());
+    }
+    for number in [262_144, -262_144, i32::MIN, i32::MAX] {
+        let numbers = steps::one_number(sizes, 9, number);
+        let coded = jobs::coding(3, 2, &numbers, 100, &mut [0; 100]);
+        assert_eq!(coded, Err(Refusal::Magnitude));
+        assert_eq!(steps::inverse(sizes, &numbers), Err(Refusal::Magnitude));
+    }
+    assert_eq!(Refusal::Magnitude.number(), 4);
+}
+
+#[test]
+fn levels_at_both_ends_of_the_sides() {
+    for (k, most) in [(3, 2), (8, 5)] {
+        let places = 1 << (2 * k);
+        let forward = |levels| jobs::forward(k, levels, &vec![7; places], &mut vec![0; places]);
+        assert!(forward(most).is_ok());
+        assert_eq!(forward(most + 1), Err(Refusal::Levels));
+        assert_eq!(forward(0), Err(Refusal::Levels));
+    }
+    assert_eq!(Refusal::Levels.number(), 2);
+}
+
+#[test]
+fn no_bits_with_18_planes_give_zeros_at_every_size() {
+    for sizes in steps::all_sizes() {
+        let none = Bits {
+            planes: 18,
+            bytes: Vec::new(),
+            count: 0,
+        };
+        let (numbers, decoded) = steps::decode(sizes, &none, 0);
+        assert_eq!(numbers, vec![0; sizes.places()]);
+        assert_eq!((decoded.unfinished, decoded.bits_read), (18, 0));
+    }
+}
+
+#[test]
+fn one_block_whole() {
+    let mut room = [0xEE; 513];
+    let blocks = jobs::record_writing(3, 2, 0, b"00000417", &[], 0, &mut room);
+    assert_eq!(blocks, Ok(1));
+    let heading = [1, 3, 2, 0, 0x30, 0x30, 0x30, 0x30, 0x30, 0x34, 0x31, 0x37];
+    assert_eq!(room[..12], heading);
+    assert_eq!(room[12..508], [0; 496]);
+    assert_eq!(room[508..512], [0x01, 0x92, 0x0D, 0x54]);
+    assert_eq!(room[512], 0xEE);
+    assert_eq!(block::checks(&room), [0x0192, 0x0D54]);
+    assert_eq!(jobs::block_check(&room[..512]), Ok(()));
+}

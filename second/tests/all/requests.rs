@@ -1,0 +1,280 @@
+//! The cases and the transcript: every refusal appears, a refused call changes
+//! nothing, and what is written is read back.
+
+use second::cases::{self, Options};
+use second::compare::{self, Outcome};
+use second::random::Random;
+use second::samples;
+use second::show;
+use second::transcript::{self, lent_bytes, lent_numbers, Answer, Field, Request};
+use second::transcript::{MOST_BYTES, MOST_LABEL, MOST_NUMBERS};
+use std::collections::BTreeMap;
+use std::slice::from_ref;
+
+fn cases_of(jobs: &[u8], largest: u32, count: u64) -> Vec<Request> {
+    let options = Options {
+        jobs: jobs.to_vec(),
+        largest,
+    };
+    (0..count)
+        .map(|number| cases::case(50, number, &options))
+        .collect()
+}
+
+const ALL_JOBS: [u8; 7] = [1, 2, 3, 4, 5, 6, 7];
+
+fn small(answer: &Answer, wanted: &str) -> u32 {
+    match answer.iter().find(|(name, _)| *name == wanted) {
+        Some((_, Field::Small(value))) => *value,
+        _ => panic!("no small field {}", wanted),
+    }
+}
+
+#[test]
+fn every_refusal_of_every_job_appears_regularly() {
+    let refusals: [&[u32]; 7] = [
+        &[0, 1, 2, 3],
+        &[0, 1, 2, 3, 4],
+        &[0, 1, 2, 3, 5, 6],
+        &[0, 1, 2, 3, 4],
+        &[0, 1, 2, 5, 6, 7],
+        &[0, 6, 7, 8, 9, 10],
+        &[0, 6, 8, 9],
+    ];
+    for (job, expected) in ALL_JOBS.iter().zip(refusals) {
+        let mut seen: BTreeMap<u32, u32> = BTreeMap::new();
+        for request in cases_of(&[*job], 4, 2_000) {
+            let refusal = small(&transcript::answer(&request), "refusal");
+            *seen.entry(refusal).or_default() += 1;
+        }
+        assert_eq!(seen.keys().copied().collect::<Vec<u32>>(), expected);
+        assert!(seen.values().all(|times| *times >= 20), "{:?}", seen);
+    }
+}
+
+#[test]
+fn every_number_that_ends_a_run_appears_regularly() {
+    let mut seen: BTreeMap<u32, u32> = BTreeMap::new();
+    for request in cases_of(&[6], 8, 2_000) {
+        let ended = small(&transcript::answer(&request), "ended");
+        *seen.entry(ended).or_default() += 1;
+    }
+    assert_eq!(seen.keys().copied().collect::<Vec<u32>>(), [0, 8, 9, 10]);
+    assert!(seen.values().all(|times| *times >= 20), "{:?}", seen);
+}
+
+#[test]
+fn every_size_appears() {
+    let mut seen = BTreeMap::new();
+    let mut random = Random::new(51, 0);
+    for _ in 0..5_000 {
+        let sizes = samples::sizes(&mut random, 8);
+        *seen.entry((sizes.k(), sizes.levels())).or_insert(0) += 1;
+    }
+    assert_eq!(seen.len(), 24);
+    assert!(seen.values().all(|times| *times >= 5), "{:?}", seen);
+    assert!((0..100).all(|_| samples::sizes(&mut random, 3).k() == 3));
+}
+
+#[test]
+fn a_refused_call_changes_nothing() {
+    for request in cases_of(&ALL_JOBS, 5, 10_000) {
+        let answer = transcript::answer(&request);
+        if small(&answer, "refusal") == 0 {
+            continue;
+        }
+        for (_, field) in &answer[1..] {
+            match field {
+                Field::Small(value) => assert_eq!(*value, 0),
+                Field::Large(value) => assert_eq!(*value, 0),
+                Field::Bytes(bytes) => assert_eq!(*bytes, lent_bytes(bytes.len())),
+                Field::Numbers(numbers) => assert_eq!(*numbers, lent_numbers(numbers.len())),
+            }
+        }
+    }
+}
+
+#[test]
+fn lent_slices_start_as_agreed() {
+    assert_eq!(lent_bytes(37)[..3], [13, 20, 27]);
+    assert_eq!(lent_bytes(37)[34..], [0, 7, 14]);
+    assert_eq!(lent_numbers(37)[..3], [-112, -105, -98]);
+    assert_eq!(lent_numbers(37)[34..], [-125, -118, -111]);
+}
+
+#[test]
+fn requests_are_read_back_as_written() {
+    let requests = cases_of(&ALL_JOBS, 6, 2_000);
+    let mut written = Vec::new();
+    for request in &requests {
+        transcript::write_request(request, &mut written).unwrap();
+    }
+    let read: Vec<Request> = transcript::requests(&written[..])
+        .map(|request| request.unwrap())
+        .collect();
+    assert!(read == requests);
+}
+
+/// The bytes of one request of each kind, as the format lays them down.
+#[test]
+fn requests_are_written_as_laid_down() {
+    let written = |request: Request| {
+        let mut bytes = Vec::new();
+        transcript::write_request(&request, &mut bytes).unwrap();
+        bytes
+    };
+    let decoding = Request::Decoding {
+        k: 3,
+        levels: 2,
+        planes: 0x0102_0304,
+        numbers: 64,
+        bytes: vec![0xAB, 0xCD],
+        count: 9,
+    };
+    let laid_down = [
+        3, 3, 0, 0, 0, 2, 0, 0, 0, 4, 3, 2, 1, 64, 0, 0, 0, 2, 0, 0, 0, 0xAB, 0xCD, 9, 0, 0, 0, 0,
+        0, 0, 0,
+    ];
+    assert_eq!(written(decoding), laid_down);
+    let inverse = Request::Inverse {
+        k: 9,
+        levels: 0,
+        numbers: vec![-2],
+        picture: 1,
+        room: 2,
+    };
+    let laid_down = [
+        4, 9, 0, 0, 0, 0, 0, 0, 0, 1, 0, 0, 0, 0xFE, 0xFF, 0xFF, 0xFF, 1, 0, 0, 0, 2, 0, 0, 0,
+    ];
+    assert_eq!(written(inverse), laid_down);
+}
+
+#[test]
+fn answers_are_as_long_as_foretold() {
+    for request in cases_of(&ALL_JOBS, 5, 2_000) {
+        let bytes = transcript::answer_bytes(&transcript::answer(&request));
+        assert_eq!(bytes.len(), transcript::answer_length(&request));
+    }
+}
+
+/// Both programs have buffers of these sizes.
+#[test]
+fn cases_keep_within_the_limits() {
+    let mut volume = 0;
+    let requests = cases_of(&ALL_JOBS, 8, 4_000);
+    for request in &requests {
+        let (numbers, bytes, label) = match request {
+            Request::Forward {
+                picture, numbers, ..
+            } => (picture.len().max(*numbers), 0, 0),
+            Request::Coding { numbers, bytes, .. } => (numbers.len(), *bytes, 0),
+            Request::Decoding { numbers, bytes, .. } => (*numbers, bytes.len(), 0),
+            Request::Inverse {
+                numbers,
+                picture,
+                room,
+                ..
+            } => (numbers.len().max(*picture).max(*room), 0, 0),
+            Request::RecordWriting {
+                label, bytes, room, ..
+            } => (0, bytes.len().max(*room), label.len()),
+            Request::RecordReading {
+                blocks,
+                label,
+                room,
+            } => (0, blocks.len().max(*room), label.len()),
+            Request::BlockCheck { block } => (0, block.len(), 0),
+        };
+        assert!(numbers <= MOST_NUMBERS && bytes <= MOST_BYTES && label <= MOST_LABEL);
+        let mut written = Vec::new();
+        transcript::write_request(request, &mut written).unwrap();
+        volume += written.len() + transcript::answer_length(request);
+    }
+    let average = volume / requests.len();
+    assert!((8_000..20_000).contains(&average), "{}", average);
+}
+
+fn answers(requests: &[Request]) -> Vec<u8> {
+    let answers = requests.iter().map(transcript::answer);
+    answers
+        .flat_map(|answer| transcript::answer_bytes(&answer))
+        .collect()
+}
+
+fn compared(requests: &[Request], a: &[u8], b: &[u8]) -> Outcome {
+    compare::compare(a, b, requests.iter().cloned().map(Ok)).unwrap()
+}
+
+/// A changed byte anywhere is found, in its case and field.
+#[test]
+fn a_difference_is_found_and_named() {
+    let requests = cases_of(&ALL_JOBS, 3, 40);
+    let right = answers(&requests);
+    assert_eq!(
+        compared(&requests, &right, &right),
+        Outcome::Same { cases: 40 }
+    );
+    let mut case = 0;
+    let mut start = 0;
+    for (place, byte) in right.iter().enumerate() {
+        while place >= start + transcript::answer_length(&requests[case]) {
+            start += transcript::answer_length(&requests[case]);
+            case += 1;
+        }
+        if place % 97 != 0 {
+            continue;
+        }
+        let mut wrong = right.clone();
+        wrong[place] ^= 1;
+        match compared(&requests, &right, &wrong) {
+            Outcome::Different { report } => {
+                let line = show::line(&requests[case]);
+                assert!(report.starts_with(&format!("case {}: {}\n", case, line)));
+                assert!(!report.contains("after the last field"), "{}", report);
+            }
+            same => panic!("byte {} {} went unnoticed: {:?}", place, byte, same),
+        }
+    }
+}
+
+#[test]
+fn a_difference_is_said_in_the_fields_own_numbers() {
+    let request = Request::Forward {
+        k: 3,
+        levels: 2,
+        picture: vec![128; 64],
+        numbers: 64,
+    };
+    let right = answers(from_ref(&request));
+    let report = |place: usize, byte: u8| {
+        let mut wrong = right.clone();
+        wrong[place] = byte;
+        match compared(from_ref(&request), &right, &wrong) {
+            Outcome::Different { report } => report.lines().last().unwrap().trim().to_string(),
+            Outcome::Same { .. } => panic!("the difference went unnoticed"),
+        }
+    };
+    assert_eq!(report(4, 7), "n: 0 against 7");
+    assert_eq!(
+        report(8 + 4 * 5 + 3, 0x80),
+        "numbers[5]: 0 against -2147483648"
+    );
+}
+
+#[test]
+fn files_that_end_early_or_late_differ() {
+    let requests = cases_of(&ALL_JOBS, 3, 5);
+    let right = answers(&requests);
+    let early = &right[..right.len() - 1];
+    let mut late = right.clone();
+    late.push(0);
+    for (a, b) in [
+        (early, &right[..]),
+        (&right, early),
+        (&late, &right),
+        (&right, &late),
+    ] {
+        let outcome = compared(&requests, a, b);
+        assert!(matches!(outcome, Outcome::Different { .. }));
+    }
+}
