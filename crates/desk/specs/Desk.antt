@@ -69,3 +69,28 @@ rebuildingOf k L n bytes b numbers picture room =
     judged (d .refusal)
     (λ r. record { refusal = r; unfinished = d .unfinished; read = d .read; numbers = d .numbers; picture = picture; room = room })
     (record { refusal = i .refusal; unfinished = d .unfinished; read = d .read; numbers = d .numbers; picture = i .picture; room = i .room })
+
+-- ---- the same, with buffers that are as long as the largest picture needs: the front of each is used
+-- the picture at a place of the input; 3 where a buffer is too short
+unfoldable pub encodingIn : ℕ → ℕ → List ℕ → ℕ → List ℕ → ℕ → List ℤ → List ℕ → List ℕ → Encoding
+encodingIn k L input start label limit numbers bytes room =
+    let area = areaOf k in
+    let e = encodingOf k L (take area (drop start input)) label limit (take area numbers) bytes room in
+    pick (leb (start + area) (length input) && leb area (length numbers))
+    (record { refusal = e .refusal; blocks = e .blocks; numbers = e .numbers ++ drop area numbers; bytes = e .bytes; room = e .room })
+    (record { refusal = 3; blocks = 0; numbers = numbers; bytes = bytes; room = room })
+
+unfoldable pub rebuildingIn : ℕ → ℕ → ℕ → List ℕ → ℕ → List ℤ → List ℕ → List ℤ → Rebuilding
+rebuildingIn k L n bytes b numbers picture room =
+    let area = areaOf k in
+    let r = rebuildingOf k L n bytes b (take area numbers) (take area picture) (take area room) in
+    pick (leb area (length numbers) && leb area (length picture) && leb area (length room))
+    (record {
+      refusal = r .refusal;
+      unfinished = r .unfinished;
+      read = r .read;
+      numbers = r .numbers ++ drop area numbers;
+      picture = r .picture ++ drop area picture;
+      room = r .room ++ drop area room;
+    })
+    (record { refusal = 3; unfinished = 0; read = 0; numbers = numbers; picture = picture; room = room })

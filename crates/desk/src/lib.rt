@@ -1,7 +1,7 @@
 // What the desk's programs do between reading and writing: which picture a PGM holds, a picture made a record, and bits
 // made a picture. All memory is lent.
 ghost use mathlib.Core.Path.{_≡_};
-ghost use Rattle.desk.specs.Desk.{areaOf, foundOf, encodingOf, rebuildingOf};
+ghost use Rattle.desk.specs.Desk.{areaOf, foundOf, encodingOf, encodingIn, rebuildingOf, rebuildingIn};
 use decoding::Settled;
 use pgm::Header;
 use record::Blocks;
@@ -50,7 +50,7 @@ pub fn find(header: Header, bytes: usize) -> Found
 }
 
 // A picture made a record, at the front of the room.
-pub fn encoded(
+fn encoded(
     k: u32,
     levels: u32,
     picture: &[u8],
@@ -79,8 +79,55 @@ pub fn encoded(
     label::write(k, levels, written.n, label, bytes, written.bits, room)
 }
 
+// The picture of side 2 ^ k at place `start` of the input made a record, at the front of the room. The numbers' buffer may
+// be longer than the picture; refusal 3 where it is shorter, or the input.
+pub fn encode(
+    k: u32,
+    levels: u32,
+    input: &[u8],
+    start: usize,
+    label: &[u8],
+    limit: usize,
+    numbers: &mut [i32],
+    bytes: &mut [u8],
+    room: &mut [u8],
+) -> Blocks
+    ensures { λ r. ⌜ encodingIn k levels (now (input .entry)) start (now (label .entry)) limit (now (numbers .entry)) (now (bytes .entry)) (now (room .entry)) ≡ record { refusal = r .refusal; blocks = r .blocks; numbers = now (numbers .exit); bytes = now (bytes .exit); room = now (room .exit) } ⌝ }
+{
+    let area = area(k);
+    if input.len() < start {
+        return Blocks {
+            refusal: 3,
+            blocks: 0,
+        };
+    }
+    if input.len() - start < area {
+        return Blocks {
+            refusal: 3,
+            blocks: 0,
+        };
+    }
+    if numbers.len() < area {
+        return Blocks {
+            refusal: 3,
+            blocks: 0,
+        };
+    }
+    let end = start + area;
+    encoded(
+        k,
+        levels,
+        &input[start..end],
+        label,
+        limit,
+        &mut numbers[..area],
+        bytes,
+        room,
+    )
+}
+
 // The first b bits made a picture.
-pub fn rebuilt(
+fn rebuilt(
     k: u32,
     levels: u32,
     n: u32,
@@ -102,4 +149,52 @@ pub fn rebuilt(
         unfinished: settled.unfinished,
         read: settled.read,
     }
+}
+
+// The first b bits made a picture of side 2 ^ k, at the front of buffers that may be longer; refusal 3 where one is
+// shorter.
+pub fn rebuild(
+    k: u32,
+    levels: u32,
+    n: u32,
+    bytes: &[u8],
+    b: usize,
+    numbers: &mut [i32],
+    picture: &mut [u8],
+    room: &mut [i32],
+) -> Settled
+    ensures { λ r. ⌜ rebuildingIn k levels n (now (bytes .entry)) b (now (numbers .entry)) (now (picture .entry)) (now (room .entry)) ≡ record { refusal = r .refusal; unfinished = r .unfinished; read = r .read; numbers = now (numbers .exit); picture = now (picture .exit); room = now (room .exit) } ⌝ }
+{
+    let area = area(k);
+    if numbers.len() < area {
+        return Settled {
+            refusal: 3,
+            unfinished: 0,
+            read: 0,
+        };
+    }
+    if picture.len() < area {
+        return Settled {
+            refusal: 3,
+            unfinished: 0,
+            read: 0,
+        };
+    }
+    if room.len() < area {
+        return Settled {
+            refusal: 3,
+            unfinished: 0,
+            read: 0,
+        };
+    }
+    rebuilt(
+        k,
+        levels,
+        n,
+        bytes,
+        b,
+        &mut numbers[..area],
+        &mut picture[..area],
+        &mut room[..area],
+    )
 }
