@@ -17,7 +17,7 @@ fn code_number(x: i32, p: u32, out: &mut [u8], at: usize, limit: usize) -> usize
     requires { ⌜ limit ≤ 8 * length (now out) ⌝ }
     ensures { λ r. ⌜ _≡_ {A = Sink} (now (out .exit), r) (wrote limit (numberBits p x) (now (out .entry), at)) ⌝ }
 {
-    let m = scan::mag(x);
+    let m = sizes::magnitude(x);
     let t = scan::threshold(p);
     if m >= 2 * t {
         return bits::put(out, at, limit, m / t % 2 == 1);

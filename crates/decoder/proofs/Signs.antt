@@ -16,7 +16,7 @@ use Rattle.integers.specs.Difference.{_⊖_, pos-⊖, negsuc-⊖}
 use Rattle.integers.specs.Order.{Within, ints, zarith}
 use Rattle.integers.specs.Machine.{within-fits, read}
 use Rattle.walk.specs.Cleared.{natAbs-signed}
-use Rattle.scan.proofs.Magnitude.{sign-is}
+use Rattle.scan.proofs.Sign.{sign-is}
 
 -- a machine number as the proofs have it
 abbrev pub kept : ℤ → ℤ

@@ -56,7 +56,7 @@ fn read_number(x: i32, p: u32, bytes: &[u8], b: usize, at: usize) -> Number
     ensures { λ r. ⌜ NumberRead p x (now (bytes .entry)) b at (r .x) (r .at) ⌝ }
 {
     let t = scan::threshold(p);
-    let m = scan::mag(x);
+    let m = sizes::magnitude(x);
     let s = bits::read_bit(bytes, b, at);
     let a = s.at;
     if !s.one {

@@ -1,5 +1,5 @@
 -- Rows, columns and Z places: where each lies, and how each comes back from the others.
-use Prim.Native.Nat.{ℕ, zero, suc, _+_, _*_, _/_, _%_, _^_, _<_, _≤_}
+use Prim.Native.Nat.{ℕ, zero, suc, _+_, _*_, _/_, _%_, _^_, _<_, _≤_, max}
 use mathlib.Core.Path.{_≡_, refl, ap, _∙_, sym}
 use native.Mathlib.Nat.{pow-suc}
 use native.Mathlib.Omega.{arith}
@@ -63,21 +63,13 @@ upper-left (suc j) r c h k =
     let p : 2 ^ suc j ≡ 2 ^ j * 2 = pow-suc 2 j in
     omega (arith, pow-suc 4 j, upper-left j (r / 2) (c / 2) (omega arith) (omega arith))
 
-pub lower-half : (j r c : ℕ) → r < 2 ^ suc j → 2 ^ j ≤ r → 4 ^ j ≤ interleaved (suc j) r c
+pub outside : (j r c : ℕ) → r < 2 ^ suc j → c < 2 ^ suc j → 2 ^ j ≤ max r c → 4 ^ j ≤ interleaved (suc j) r c
 unfolding interleaved
-lower-half zero r c h k = omega arith
-lower-half (suc j) r c h k =
+outside zero r c h k m = omega arith
+outside (suc j) r c h k m =
     let p : 2 ^ suc j ≡ 2 ^ j * 2 = pow-suc 2 j in
     let q : 2 ^ suc (suc j) ≡ 2 ^ suc j * 2 = pow-suc 2 (suc j) in
-    omega (arith, pow-suc 4 j, lower-half j (r / 2) (c / 2) (omega arith) (omega arith))
-
-pub right-half : (j r c : ℕ) → c < 2 ^ suc j → 2 ^ j ≤ c → 4 ^ j ≤ interleaved (suc j) r c
-unfolding interleaved
-right-half zero r c h k = omega arith
-right-half (suc j) r c h k =
-    let p : 2 ^ suc j ≡ 2 ^ j * 2 = pow-suc 2 j in
-    let q : 2 ^ suc (suc j) ≡ 2 ^ suc j * 2 = pow-suc 2 (suc j) in
-    omega (arith, pow-suc 4 j, right-half j (r / 2) (c / 2) (omega arith) (omega arith))
+    omega (arith, pow-suc 4 j, outside j (r / 2) (c / 2) (omega arith) (omega arith) (omega arith))
 
 -- ---- a square of side 2 ^ j has 4 ^ j places
 doubled : (j : ℕ) → 2 ^ (j + j) ≡ 4 ^ j

@@ -21,7 +21,8 @@ fn in_turn(block: &[u8], first: &[u8], label: &[u8], i: usize) -> bool
     if !fields::same_bytes(&block[0..12], &first[0..12]) {
         return false;
     }
-    fields::same_bytes(&block[4..12], label)
+    let name = &block[4..12];
+    fields::same_bytes(name, label)
 }
 
 // Why block i can't be kept: 8, 9 or 10; 0 if it can.
@@ -31,12 +32,13 @@ pub fn turn_refusal(blocks: &[u8], label: &[u8], i: usize) -> u32
 {
     let start = 512 * i;
     let end = start + 512;
+    let first = &blocks[0..512];
     let block = &blocks[start..end];
     let refusal = block::check(block);
     if refusal > 0 {
         return refusal;
     }
-    if in_turn(block, &blocks[0..512], label, i) {
+    if in_turn(block, first, label, i) {
         0
     } else {
         10

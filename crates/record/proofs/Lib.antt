@@ -1,4 +1,4 @@
 -- Laws that the proofs of this crate share.
-pub mod Rows
+pub mod Table
 pub mod Writing
 pub mod Reading

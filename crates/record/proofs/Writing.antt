@@ -14,7 +14,7 @@ use Rattle.paper.specs.Record.{blocksFor, blockOf, recordOf}
 use Rattle.paper.specs.Jobs.{sizesRefusal, writingRefusal, writingJob}
 use Rattle.sizes.proofs.Refusals.{refused-is}
 use Rattle.records.specs.ReadBack.{length-record}
-use Rattle.records.specs.BothJobs.{Accepted, accepted, most-bits, length-given, writable, written}
+use Rattle.records.specs.BothJobs.{Accepted, most-bits, length-given, writable, written}
 
 module _ (k L n : ℕ) (label bytes : List ℕ) (b : ℕ) (room : List ℕ) where
   -- the rows, as they are judged from the lengths alone
@@ -39,9 +39,6 @@ module _ (k L n : ℕ) (label bytes : List ℕ) (b : ℕ) (room : List ℕ) wher
         ap (λ a. joined (blocksFor (length l)) (blockOf k L n label l) ++ drop a room) all ∙ ap (λ j. joined j (blockOf k L n label l) ++ drop (512 * j) room) (ap blocksFor given ∙ sym e) ∙ sym f in
         written k L n label bytes b room passed ∙ (λ t. record { refusal = 0; blocks = sym e t; room = laid t })
 
-    -- what writing the blocks asks for
-    pub few-blocks : b ≤ 3936 * 65536
-    few-blocks = omega (arith, asked .bound, most-bits k n (asked .size) (asked .planes))
-      where
-        asked : Accepted k L n label bytes b room
-        asked = accepted k L n label bytes b room passed
+-- the blocks of an accepted call can be counted
+pub few-blocks : {k L n b : ℕ} {label bytes room : List ℕ} → Accepted k L n label bytes b room → b ≤ 3936 * 65536
+few-blocks {k} {L} {n} a = omega (arith, a .bound, most-bits k n (a .size) (a .planes))

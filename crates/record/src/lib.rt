@@ -38,6 +38,16 @@ fn fits(k: u32, n: u32, bytes: usize, b: usize, room: usize) -> bool
     512 * writer::blocks_for(b) <= room
 }
 
+// Rows 6 and 7, the lower number first.
+fn rows(fitting: bool, named: bool) -> u32
+    ensures { λ r. ⌜ r ≡ unless 6 fitting (unless 7 named 0) ⌝ }
+{
+    if !fitting {
+        return 6;
+    }
+    if named { 0 } else { 7 }
+}
+
 fn write_refusal(
     k: u32,
     levels: u32,
@@ -56,10 +66,7 @@ fn write_refusal(
     if !sizes::planes_in(n) {
         return 5;
     }
-    if !fits(k, n, bytes, b, room) {
-        return 6;
-    }
-    if fields::is_label(label) { 0 } else { 7 }
+    rows(fits(k, n, bytes, b, room), fields::is_label(label))
 }
 
 #[repr(C)]
@@ -104,17 +111,14 @@ pub fn write(
     }
 }
 
-// Rows 6 and 7 of record reading, from the bytes in `blocks` and in `room`.
-fn read_refusal(blocks: usize, label: &[u8], room: usize) -> u32
-    ensures { λ r. ⌜ r ≡ unless 6 (leb 512 blocks && leb (492 * (blocks / 512)) room) (unless 7 (isLabel (now (label .entry))) 0) ⌝ }
+// Row 6 of record reading, from the bytes in `blocks` and in `room`.
+fn holds(blocks: usize, room: usize) -> bool
+    ensures { λ r. ⌜ r ≡ (leb 512 blocks && leb (492 * (blocks / 512)) room) ⌝ }
 {
     if blocks < 512 {
-        return 6;
+        return false;
     }
-    if room < 492 * (blocks / 512) {
-        return 6;
-    }
-    if fields::is_label(label) { 0 } else { 7 }
+    492 * (blocks / 512) <= room
 }
 
 #[repr(C)]
@@ -148,7 +152,7 @@ fn refused(refusal: u32) -> Kept
 pub fn read(blocks: &[u8], label: &[u8], room: &mut [u8]) -> Kept
     ensures { λ r. ⌜ readingJob (now (blocks .entry)) (now (label .entry)) (now (room .entry)) ≡ record { refusal = r .refusal; k = r .k; L = r .levels; n = r .n; blocks = r .blocks; bits = r .bits; ended = r .ended; room = now (room .exit) } ⌝ }
 {
-    let refusal = read_refusal(blocks.len(), label, room.len());
+    let refusal = rows(holds(blocks.len(), room.len()), fields::is_label(label));
     if refusal > 0 {
         return refused(refusal);
     }

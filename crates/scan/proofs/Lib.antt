@@ -1,3 +1,3 @@
 pub mod Numbers
-pub mod Magnitude
+pub mod Sign
 pub mod Reached

@@ -2,9 +2,7 @@
 ghost use mathlib.Core.Path.{_≡_};
 ghost use mathlib.Core.Bool.{true};
 ghost use Prim.Native.Nat.{_^_, _<_};
-ghost use lib.IntN.{natAbs};
-ghost use Rattle.paper.specs.Sizes.{numberLimit, mostPlanes, numbersIn};
-ghost use Rattle.integers.specs.Order.{Within};
+ghost use Rattle.paper.specs.Sizes.{mostPlanes, numbersIn};
 ghost use Rattle.scan.specs.Seen.{seenOf};
 
 pub enum Seen {
@@ -21,14 +19,6 @@ pub fn threshold(p: u32) -> u32
     1 << p
 }
 
-// The magnitude of a wavelet number.
-pub fn mag(x: i32) -> u32
-    requires { ⌜ Within numberLimit x ⌝ }
-    ensures { λ r. ⌜ r ≡ natAbs x ⌝ }
-{
-    if x < 0 { (0 - x) as u32 } else { x as u32 }
-}
-
 // What a test of the numbers sees on plane p.
 pub fn scan(xs: &[i32], p: u32) -> Seen
     requires { ⌜ numbersIn (now xs) ≡ true ⌝ }
@@ -42,7 +32,7 @@ pub fn scan(xs: &[i32], p: u32) -> Seen
         if i >= xs.len() {
             break if any { Seen::New } else { Seen::Closed };
         }
-        let m = mag(xs[i]);
+        let m = sizes::magnitude(xs[i]);
         if m >= 2 * t {
             break Seen::Known;
         }

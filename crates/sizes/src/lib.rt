@@ -4,6 +4,7 @@ ghost use mathlib.Core.Bool.{true};
 ghost use Prim.Native.Nat.{ℕ, _+_, _*_, _/_, _^_, _≤_, max};
 ghost use lib.Dec.{leb};
 ghost use lib.IntN.{natAbs};
+ghost use Rattle.integers.specs.Order.{Within};
 ghost use Rattle.paper.specs.Sizes.{sizeIn, levelsIn, planesIn, numbersIn, numberLimit, mostBits};
 ghost use Rattle.paper.specs.Walk.{largest, bitsNeeded, planeCount};
 ghost use Rattle.paper.specs.Jobs.{sizesRefusal};
@@ -96,8 +97,9 @@ fn larger(a: u32, b: u32) -> u32
     if a < b { b } else { a }
 }
 
-fn magnitude(x: i32) -> u32
-    requires { ⌜ leb (natAbs x) numberLimit ≡ true ⌝ }
+// The magnitude of a wavelet number.
+pub fn magnitude(x: i32) -> u32
+    requires { ⌜ Within numberLimit x ⌝ }
     ensures { λ r. ⌜ r ≡ natAbs x ⌝ }
 {
     if x < 0 { (0 - x) as u32 } else { x as u32 }

@@ -13,7 +13,7 @@ use lib.IntN.{ℤ, pos}
 use Rattle.paper.specs.Lists.{at}
 use Rattle.paper.specs.Line.{lineBack}
 use Rattle.paper.specs.Square.{placeOf, line, along, levelBack, onFirst, levelsBack}
-use Rattle.places.proofs.Interleaving.{interleaved-below, upper-left, lower-half, right-half}
+use Rattle.places.proofs.Interleaving.{interleaved-below, upper-left, outside}
 use Rattle.lift.specs.Off.{Off}
 use Rattle.lift.proofs.Near.{wider}
 use Rattle.line.proofs.Near.{Near, line-near}
@@ -57,13 +57,16 @@ module _ (j a e : ℕ) (xs ys : List ℤ) (N : Near (4 ^ j) (4 ^ suc j) a e xs y
   unfolding placeOf
   left-column c h = along-near j true c a e xs ys (omega (arith, pow-suc 2 j))
       (λ r k. N .low (placeOf (suc j) true c r) (upper-left j r c k h))
-      (λ r g k. N .rest (placeOf (suc j) true c r) (lower-half j r c k g) (interleaved-below (suc j) r c))
+      (λ r g k. N .rest (placeOf (suc j) true c r) (outside j r c k (omega (arith, pow-suc 2 j)) (omega arith)) (interleaved-below (suc j) r c))
 
   right-column : (c : ℕ) → 2 ^ j ≤ c → c < 2 ^ suc j → (r : ℕ) → r < 2 ^ suc j → Off (e + e + (e + 1) / 2) (at us (placeOf (suc j) true c r)) (at vs (placeOf (suc j) true c r))
   unfolding placeOf
   right-column c g h = along-near j true c e e xs ys h
-      (λ r k. N .rest (placeOf (suc j) true c r) (right-half j r c h g) (interleaved-below (suc j) r c))
-      (λ r f k. N .rest (placeOf (suc j) true c r) (right-half j r c h g) (interleaved-below (suc j) r c))
+      (λ r k. beyond r (omega (arith, pow-suc 2 j)))
+      (λ r f k. beyond r k)
+    where
+      beyond : (r : ℕ) → r < 2 ^ suc j → Off e (at xs (placeOf (suc j) true c r)) (at ys (placeOf (suc j) true c r))
+      beyond r k = N .rest (placeOf (suc j) true c r) (outside j r c k h (omega arith)) (interleaved-below (suc j) r c)
 
   -- after the columns
   pub columns-near : (z : ℕ) → z < 4 ^ suc j → Off (a + 3 * e) (at (along lineBack (suc j) true xs) z) (at (along lineBack (suc j) true ys) z)

@@ -82,9 +82,12 @@ fn to_greys(k: u32, levels: u32, numbers: &[i32], room: &mut [i32])
 pub fn forward(k: u32, levels: u32, picture: &[u8], numbers: &mut [i32]) -> Planes
     ensures { λ r. ⌜ forwardJob k levels (now (picture .entry)) (now (numbers .entry)) ≡ record { refusal = r .refusal; n = r .n; numbers = now (numbers .exit) } ⌝ }
 {
-    let r = forward_refusal(k, levels, picture, numbers);
-    if r > 0 {
-        return Planes { refusal: r, n: 0 };
+    let refusal = forward_refusal(k, levels, picture, numbers);
+    if refusal > 0 {
+        return Planes {
+            refusal: refusal,
+            n: 0,
+        };
     }
     to_numbers(k, levels, picture, numbers);
     let n = sizes::plane_count(numbers);
@@ -95,9 +98,9 @@ pub fn forward(k: u32, levels: u32, picture: &[u8], numbers: &mut [i32]) -> Plan
 pub fn inverse(k: u32, levels: u32, numbers: &[i32], picture: &mut [u8], room: &mut [i32]) -> u32
     ensures { λ r. ⌜ inverseJob k levels (now (numbers .entry)) (now (picture .entry)) (now (room .entry)) ≡ record { refusal = r; picture = now (picture .exit); room = now (room .exit) } ⌝ }
 {
-    let r = inverse_refusal(k, levels, numbers, picture, room);
-    if r > 0 {
-        return r;
+    let refusal = inverse_refusal(k, levels, numbers, picture, room);
+    if refusal > 0 {
+        return refusal;
     }
     to_greys(k, levels, numbers, room);
     picture::set_picture(k, room, picture);

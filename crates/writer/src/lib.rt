@@ -112,12 +112,12 @@ pub fn write_blocks(
     requires { ⌜ blocks ≤ 65536 ⌝ }
     ensures { λ _. ⌜ now (room .exit) ≡ joined blocks (blockOf k levels n (now (label .entry)) (take b (bits (now (bytes .entry))))) ++ drop (512 * blocks) (now (room .entry)) ⌝ }
 {
-    let mut i = 0;
-    while i < blocks {
-        let start = 512 * i;
+    let mut number = 0;
+    while number < blocks {
+        let start = 512 * number;
         let end = start + 512;
-        put_block(&mut room[start..end], k, levels, n, label, bytes, b, i);
-        i += 1;
+        put_block(&mut room[start..end], k, levels, n, label, bytes, b, number);
+        number += 1;
     }
 }
 

@@ -4,15 +4,15 @@ use native.Mathlib.Omega.{arith}
 use lib.Pow.{pow-pos}
 use lib.IntN.{natAbs}
 use borrow.Author.Needs.{needs}
-use Rattle.scan.proofs.Magnitude.{sign-is}
+use Rattle.scan.proofs.Sign.{sign-is}
 use Rattle.scan.proofs.Reached.{power-lt}
 use Rattle.integers.specs.Machine.{read}
 use Rattle.coder.proofs.Numbered.{number-known, number-small, number-new}
 use Rattle.coder.proofs.code_number.Tie as tie
 use Rattle.coder.proofs.code_number.Statement.{statement}
 
-mag-requires : tie.Need-mag-requires
-mag-requires c κs = search needs
+magnitude-requires : tie.Need-magnitude-requires
+magnitude-requires c κs = search needs
 
 threshold-requires : tie.Need-threshold-requires
 threshold-requires c κs = search needs
@@ -33,7 +33,7 @@ same-length c = search needs
 
 returns : tie.Need-returns
 returns c =
-    let S = c .before .before .before .before .before .before .before .before in number-known _ _ _ _ (S .args .x) (c .before .before .before .before .before .threshold .ensures) (c .before .before .before .before .before .before .mag .ensures ∙ ap natAbs (read (S .pre .0) tt)) _ _ (c .before .before .before .before .if1 .taken) (c .before .before .put .ensures)
+    let S = c .before .before .before .before .before .before .before .before in number-known _ _ _ _ (S .args .x) (c .before .before .before .before .before .threshold .ensures) (c .before .before .before .before .before .before .magnitude .ensures ∙ ap natAbs (read (S .pre .0) tt)) _ _ (c .before .before .before .before .if1 .taken) (c .before .before .put .ensures)
 
 put-requires-2 : tie.Need-put-requires-2
 put-requires-2 c κs = search needs
@@ -43,7 +43,7 @@ same-length-2 c = search needs
 
 returns-2 : tie.Need-returns-2
 returns-2 c =
-    let S = c .before .before .before .before .before .before .before .before .before in number-small _ _ _ _ (S .args .x) (c .before .before .before .before .before .before .threshold .ensures) (c .before .before .before .before .before .before .before .mag .ensures ∙ ap natAbs (read (S .pre .0) tt)) _ _ (c .before .before .before .before .if2 .taken) (c .before .before .put2 .ensures)
+    let S = c .before .before .before .before .before .before .before .before .before in number-small _ _ _ _ (S .args .x) (c .before .before .before .before .before .before .threshold .ensures) (c .before .before .before .before .before .before .before .magnitude .ensures ∙ ap natAbs (read (S .pre .0) tt)) _ _ (c .before .before .before .before .if2 .taken) (c .before .before .put2 .ensures)
 
 put-requires-3 : tie.Need-put-requires-3
 put-requires-3 c κs = search needs
@@ -56,13 +56,13 @@ same-length-3 c = search needs
 
 returns-3 : tie.Need-returns-3
 returns-3 c =
-    let S = c .before .before .before .before .before .before .before .before .before .before .before .before .before in number-new _ _ _ _ (S .args .x) (c .before .before .before .before .before .before .before .before .before .before .threshold .ensures) (c .before .before .before .before .before .before .before .before .before .before .before .mag .ensures ∙ ap natAbs (read (S .pre .0) tt)) _ _ _ _ (c .before .before .before .before .before .before .before .before .before .if1 .left) (c .before .before .before .before .before .before .before .before .if2 .left) (sign-is (S .args .x) (S .pre .0)) (c .before .before .before .before .before .before .put3 .ensures) (c .before .before .put4 .ensures)
+    let S = c .before .before .before .before .before .before .before .before .before .before .before .before .before in number-new _ _ _ _ (S .args .x) (c .before .before .before .before .before .before .before .before .before .before .threshold .ensures) (c .before .before .before .before .before .before .before .before .before .before .before .magnitude .ensures ∙ ap natAbs (read (S .pre .0) tt)) _ _ _ _ (c .before .before .before .before .before .before .before .before .before .if1 .left) (c .before .before .before .before .before .before .before .before .if2 .left) (sign-is (S .args .x) (S .pre .0)) (c .before .before .before .before .before .before .put3 .ensures) (c .before .before .put4 .ensures)
 
 pub code-number-spec : {M : Type 1} → statement M
 code-number-spec =
     tie.close
     (tie.spec
-    mag-requires
+    magnitude-requires
     threshold-requires
     mul-if1
     div-put

@@ -15,8 +15,8 @@ use Rattle.decoder.proofs.read_number.Tie as tie
 threshold-requires : tie.Need-threshold-requires
 threshold-requires c κs = search needs
 
-mag-requires : tie.Need-mag-requires
-mag-requires c κs =
+magnitude-requires : tie.Need-magnitude-requires
+magnitude-requires c κs =
     passes (c .before .before .args .x) (c .before .before .args .p) (c .before .before .pre .0)
 
 read-bit-requires : tie.Need-read-bit-requires
@@ -43,7 +43,7 @@ returns-2 c =
     let p = c .before .before .before .before .before .before .before .before .args .p in
     let h = c .before .before .before .before .before .before .before .before .pre .0 in
     let e = held x p h in
-    number-grown p x (c .before .before .before .before .read-bit .ensures) _ _ (c .before .before .before .before .before .before .threshold .ensures) (c .before .before .before .before .before .mag .ensures ∙ ap natAbs e) _ (c .before .if2 .taken) (not-false _ (c .before .before .if1 .left)) (kept-signed _ (negative x) (natAbs x + c .before .before .before .before .before .before .threshold .result) (c .grown .ensures ∙ ap (λ z. signed (negative z) (natAbs z + c .before .before .before .before .before .before .threshold .result)) e) (takes x p h _ (c .before .before .before .before .before .before .threshold .ensures)))
+    number-grown p x (c .before .before .before .before .read-bit .ensures) _ _ (c .before .before .before .before .before .before .threshold .ensures) (c .before .before .before .before .before .magnitude .ensures ∙ ap natAbs e) _ (c .before .if2 .taken) (not-false _ (c .before .before .if1 .left)) (kept-signed _ (negative x) (natAbs x + c .before .before .before .before .before .before .threshold .result) (c .grown .ensures ∙ ap (λ z. signed (negative z) (natAbs z + c .before .before .before .before .before .before .threshold .result)) e) (takes x p h _ (c .before .before .before .before .before .before .threshold .ensures)))
 
 read-bit-requires-2 : tie.Need-read-bit-requires-2
 read-bit-requires-2 c κs = search needs
@@ -54,7 +54,7 @@ returns-3 c =
     let p = c .before .before .before .before .before .before .before .before .before .args .p in
     let h = c .before .before .before .before .before .before .before .before .before .pre .0 in
     let e = held x p h in
-    number-unsigned p x (c .before .before .before .before .before .read-bit .ensures) _ _ (c .before .before .before .before .before .before .before .threshold .ensures) (c .before .before .before .before .before .before .mag .ensures ∙ ap natAbs e) (c .before .read-bit2 .ensures) _ e (c .before .before .if2 .left) (not-false _ (c .before .before .before .if1 .left)) (c .if3 .taken)
+    number-unsigned p x (c .before .before .before .before .before .read-bit .ensures) _ _ (c .before .before .before .before .before .before .before .threshold .ensures) (c .before .before .before .before .before .before .magnitude .ensures ∙ ap natAbs e) (c .before .read-bit2 .ensures) _ e (c .before .before .if2 .left) (not-false _ (c .before .before .before .if1 .left)) (c .if3 .taken)
 
 begun-requires : tie.Need-begun-requires
 begun-requires c κs =
@@ -66,14 +66,14 @@ returns-4 c =
     let p = c .before .before .before .before .before .before .before .before .before .before .args .p in
     let h = c .before .before .before .before .before .before .before .before .before .before .pre .0 in
     let e = held x p h in
-    number-begun p x (c .before .before .before .before .before .before .read-bit .ensures) _ _ (c .before .before .before .before .before .before .before .before .threshold .ensures) (c .before .before .before .before .before .before .before .mag .ensures ∙ ap natAbs e) (c .before .before .read-bit2 .ensures) _ (c .before .before .before .if2 .left) (not-false _ (c .before .before .before .before .if1 .left)) (c .before .if3 .left) (kept-signed _ (c .before .before .read-bit2 .result .one) (c .before .before .before .before .before .before .before .before .threshold .result) (c .begun .ensures) (omega (arith, c .before .before .before .before .before .before .before .before .threshold .ensures, pow-lt (c .before .before .before .before .before .before .before .before .before .before .pre .1 .0))))
+    number-begun p x (c .before .before .before .before .before .before .read-bit .ensures) _ _ (c .before .before .before .before .before .before .before .before .threshold .ensures) (c .before .before .before .before .before .before .before .magnitude .ensures ∙ ap natAbs e) (c .before .before .read-bit2 .ensures) _ (c .before .before .before .if2 .left) (not-false _ (c .before .before .before .before .if1 .left)) (c .before .if3 .left) (kept-signed _ (c .before .before .read-bit2 .result .one) (c .before .before .before .before .before .before .before .before .threshold .result) (c .begun .ensures) (omega (arith, c .before .before .before .before .before .before .before .before .threshold .ensures, pow-lt (c .before .before .before .before .before .before .before .before .before .before .pre .1 .0))))
 
 pub read-number-spec : {M : Type 1} → statement M
 read-number-spec =
     tie.close
     (tie.spec
     threshold-requires
-    mag-requires
+    magnitude-requires
     read-bit-requires
     returns
     mul-if2

@@ -40,7 +40,7 @@ back-in-sub-back-in : (t : ℕ) → back-in-lts.Need-sub-back-in (
   level-reads.Asked,
   level-reads.Learnt,
 ) (back-in-at t) back-in.Post
-back-in-sub-back-in t c = search needs
+back-in-sub-back-in t c = omega arith
 
 back-in-sub-back-in-2 : (t : ℕ) → back-in-lts.Need-sub-back-in-2 (
   back-in-below t,
@@ -48,7 +48,7 @@ back-in-sub-back-in-2 : (t : ℕ) → back-in-lts.Need-sub-back-in-2 (
   level-reads.Asked,
   level-reads.Learnt,
 ) (back-in-at t) back-in.Post
-back-in-sub-back-in-2 t c = search needs
+back-in-sub-back-in-2 t c = omega arith
 
 back-in-slice-relend-prefix-back-in : (t : ℕ) → back-in-lts.Need-slice-relend-prefix-back-in (
   back-in-below t,
@@ -56,7 +56,7 @@ back-in-slice-relend-prefix-back-in : (t : ℕ) → back-in-lts.Need-slice-relen
   level-reads.Asked,
   level-reads.Learnt,
 ) (back-in-at t) back-in.Post
-back-in-slice-relend-prefix-back-in t c = search needs
+back-in-slice-relend-prefix-back-in t c = omega arith
 
 back-in-slice-aggregate-back-in : (t : ℕ) → back-in-lts.Need-slice-aggregate-back-in (
   back-in-below t,
@@ -100,7 +100,7 @@ back-in-same-length : (t : ℕ) → back-in-lts.Need-same-length (
   level-reads.Asked,
   level-reads.Learnt,
 ) (back-in-at t) back-in.Post
-back-in-same-length t c = search needs
+back-in-same-length t c = omega arith
 
 back-in-same-length-2 : (t : ℕ) → back-in-lts.Need-same-length-2 (
   back-in-below t,
@@ -108,7 +108,7 @@ back-in-same-length-2 : (t : ℕ) → back-in-lts.Need-same-length-2 (
   level-reads.Asked,
   level-reads.Learnt,
 ) (back-in-at t) back-in.Post
-back-in-same-length-2 t c = search needs
+back-in-same-length-2 t c = omega arith
 
 back-in-same-length-3 : (t : ℕ) → back-in-lts.Need-same-length-3 (
   back-in-below t,
@@ -116,7 +116,7 @@ back-in-same-length-3 : (t : ℕ) → back-in-lts.Need-same-length-3 (
   level-reads.Asked,
   level-reads.Learnt,
 ) (back-in-at t) back-in.Post
-back-in-same-length-3 t c = search needs
+back-in-same-length-3 t c = omega arith
 
 back-in-returns-2 : (t : ℕ) → back-in-lts.Need-returns-2 (
   back-in-below t,

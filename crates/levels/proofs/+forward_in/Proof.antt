@@ -7,7 +7,6 @@ use lib.ListN.{length}
 use lib.Seq.{length-take-le}
 use Rattle.paper.specs.Square.{levelsForward}
 use Rattle.levels.proofs.Quarters.{length-way, quarter, half-le, part, forward-fits, forward-left, forward-is}
-use borrow.Author.Needs.{needs}
 use borrow.Fn.Kinds.{In}
 use borrow.Fn.PlainCycle.{Measures, is, falls, and}
 use Rattle.levels.proofs.forward_in.Reads as forward-in
@@ -55,7 +54,7 @@ forward-in-sub-forward-in : (t : ℕ) → forward-in-lts.Need-sub-forward-in (
   forward-in-below t,
   forward-in.Post,
 ) (forward-in-at t) forward-in.Post
-forward-in-sub-forward-in t c = search needs
+forward-in-sub-forward-in t c = omega arith
 
 forward-in-sub-forward-in-2 : (t : ℕ) → forward-in-lts.Need-sub-forward-in-2 (
   level-reads.Asked,
@@ -63,7 +62,7 @@ forward-in-sub-forward-in-2 : (t : ℕ) → forward-in-lts.Need-sub-forward-in-2
   forward-in-below t,
   forward-in.Post,
 ) (forward-in-at t) forward-in.Post
-forward-in-sub-forward-in-2 t c = search needs
+forward-in-sub-forward-in-2 t c = omega arith
 
 forward-in-slice-relend-prefix-forward-in :
     (t : ℕ) → forward-in-lts.Need-slice-relend-prefix-forward-in (
@@ -72,7 +71,7 @@ forward-in-slice-relend-prefix-forward-in :
       forward-in-below t,
       forward-in.Post,
     ) (forward-in-at t) forward-in.Post
-forward-in-slice-relend-prefix-forward-in t c = search needs
+forward-in-slice-relend-prefix-forward-in t c = omega arith
 
 forward-in-slice-aggregate-forward-in : (t : ℕ) → forward-in-lts.Need-slice-aggregate-forward-in (
   level-reads.Asked,
@@ -104,7 +103,7 @@ forward-in-same-length : (t : ℕ) → forward-in-lts.Need-same-length (
   forward-in-below t,
   forward-in.Post,
 ) (forward-in-at t) forward-in.Post
-forward-in-same-length t c = search needs
+forward-in-same-length t c = omega arith
 
 forward-in-same-length-2 : (t : ℕ) → forward-in-lts.Need-same-length-2 (
   level-reads.Asked,
@@ -112,7 +111,7 @@ forward-in-same-length-2 : (t : ℕ) → forward-in-lts.Need-same-length-2 (
   forward-in-below t,
   forward-in.Post,
 ) (forward-in-at t) forward-in.Post
-forward-in-same-length-2 t c = search needs
+forward-in-same-length-2 t c = omega arith
 
 forward-in-same-length-3 : (t : ℕ) → forward-in-lts.Need-same-length-3 (
   level-reads.Asked,
@@ -120,7 +119,7 @@ forward-in-same-length-3 : (t : ℕ) → forward-in-lts.Need-same-length-3 (
   forward-in-below t,
   forward-in.Post,
 ) (forward-in-at t) forward-in.Post
-forward-in-same-length-3 t c = search needs
+forward-in-same-length-3 t c = omega arith
 
 forward-in-returns-2 : (t : ℕ) → forward-in-lts.Need-returns-2 (
   level-reads.Asked,

@@ -1,5 +1,6 @@
 -- `levels::forward` meets its contract.
 use Rattle.places.proofs.Steps.{side-small}
+use native.Mathlib.Omega.{arith}
 use borrow.Author.Needs.{needs}
 use Rattle.levels.proofs.forward.Statement.{statement}
 use Rattle.levels.proofs.forward.Tie as tie
@@ -18,7 +19,7 @@ forward-in-requires c κs =
     (p .0, (p .1 .0, (p .1 .1 .0, (p .1 .1 .1, (r, r)))))
 
 same-length : tie.Need-same-length
-same-length c = search needs
+same-length c = omega arith
 
 returns : tie.Need-returns
 returns c = search needs

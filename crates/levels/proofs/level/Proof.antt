@@ -11,13 +11,13 @@ side-requires : tie.Need-side-requires
 side-requires c κs = search needs
 
 slice-relend-prefix-passes : tie.Need-slice-relend-prefix-passes
-slice-relend-prefix-passes c = search needs
+slice-relend-prefix-passes c = omega arith
 
 slice-aggregate-passes : tie.Need-slice-aggregate-passes
 slice-aggregate-passes c = sym (length-take-le _ _ (omega arith))
 
 slice-relend-prefix-passes-2 : tie.Need-slice-relend-prefix-passes-2
-slice-relend-prefix-passes-2 c = search needs
+slice-relend-prefix-passes-2 c = omega arith
 
 slice-aggregate-passes-2 : tie.Need-slice-aggregate-passes-2
 slice-aggregate-passes-2 c = sym (length-take-le _ _ (omega arith))
@@ -30,13 +30,13 @@ passes-requires c κs =
     (p .0, (p .1 .0, (p .1 .1 .0, (p .1 .1 .1 .0, (p .1 .1 .1 .1 .0, (part _ _ _ s (omega arith), part _ _ _ s (omega arith)))))))
 
 same-length : tie.Need-same-length
-same-length c = search needs
+same-length c = omega arith
 
 same-length-2 : tie.Need-same-length-2
-same-length-2 c = search needs
+same-length-2 c = omega arith
 
 same-length-3 : tie.Need-same-length-3
-same-length-3 c = search needs
+same-length-3 c = omega arith
 
 returns : tie.Need-returns
 returns c = search needs

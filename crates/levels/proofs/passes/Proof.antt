@@ -3,6 +3,7 @@ use mathlib.Core.Path.{ap, _∙_}
 use lib.ListN.{length}
 use Rattle.square.specs.Grid.{length-along}
 use Rattle.levels.proofs.Quarters.{level-is}
+use native.Mathlib.Omega.{arith}
 use borrow.Author.Needs.{needs}
 use Rattle.levels.proofs.passes.Statement.{statement}
 use Rattle.levels.proofs.passes.Tie as tie
@@ -19,13 +20,13 @@ turn-lines-requires-2 c κs =
     (p .0, (p .1 .0, (ap length e ∙ length-along _ (s .args .j) _ _, (rw e (p .1 .1 .1 .1 .0), (search needs, search needs)))))
 
 same-length : tie.Need-same-length
-same-length c = search needs
+same-length c = omega arith
 
 same-length-2 : tie.Need-same-length-2
-same-length-2 c = search needs
+same-length-2 c = omega arith
 
 same-length-3 : tie.Need-same-length-3
-same-length-3 c = search needs
+same-length-3 c = omega arith
 
 returns : tie.Need-returns
 returns c =

@@ -39,22 +39,22 @@ even-at-requires-2 : tie.Need-even-at-requires-2 Inv-loop μ-loop
 even-at-requires-2 c κs = (c .before .before .before .before .pre .0, (omega arith, omega arith))
 
 mul-left : tie.Need-mul-left Inv-loop μ-loop
-mul-left c = search needs
+mul-left c = omega arith
 
 mul-left-2 : tie.Need-mul-left-2 Inv-loop μ-loop
-mul-left-2 c = search needs
+mul-left-2 c = omega arith
 
 slice-set-from-left : tie.Need-slice-set-from-left Inv-loop μ-loop
-slice-set-from-left c = search needs
+slice-set-from-left c = omega arith
 
 add-odd-of : tie.Need-add-odd-of Inv-loop μ-loop
-add-odd-of c = search needs
+add-odd-of c = omega arith
 
 mul-odd-of : tie.Need-mul-odd-of Inv-loop μ-loop
-mul-odd-of c = search needs
+mul-odd-of c = omega arith
 
 shared-slice-copy-out-odd-of : tie.Need-shared-slice-copy-out-odd-of Inv-loop μ-loop
-shared-slice-copy-out-odd-of c = search needs
+shared-slice-copy-out-odd-of c = omega arith
 
 odd-of-requires : tie.Need-odd-of-requires Inv-loop μ-loop
 odd-of-requires c κs =
@@ -66,22 +66,22 @@ odd-of-requires c κs =
     (pass (e (h + i)) tt tt, (rw (l .loop .inv .2) (pass (even-at-within y h (min i (h - 1)) e) tt tt), rw (c .before .even-at2 .ensures) (pass (even-at-within y h _ e) tt tt)))
 
 mul-t15 : tie.Need-mul-t15 Inv-loop μ-loop
-mul-t15 c = search needs
+mul-t15 c = omega arith
 
 add-t16 : tie.Need-add-t16 Inv-loop μ-loop
-add-t16 c = search needs
+add-t16 c = omega arith
 
 mul-t17 : tie.Need-mul-t17 Inv-loop μ-loop
-mul-t17 c = search needs
+mul-t17 c = omega arith
 
 slice-set-from-out : tie.Need-slice-set-from-out Inv-loop μ-loop
 slice-set-from-out c = simp length-set (omega arith)
 
 add-i : tie.Need-add-i Inv-loop μ-loop
-add-i c = search needs
+add-i c = omega arith
 
 loop-less : tie.Need-loop-less Inv-loop μ-loop
-loop-less c = search needs
+loop-less c = omega arith
 
 loop-again : tie.Need-loop-again Inv-loop μ-loop
 unfolding oddAt

@@ -4,6 +4,7 @@ use Prim.Native.Nat.{_+_}
 use mir.Facts.{toZ-ofZ}
 use Rattle.integers.specs.Machine.{read, pass}
 use Rattle.paper.specs.Line.{evenAt}
+use native.Mathlib.Omega.{arith}
 use borrow.Author.Needs.{needs}
 use Rattle.line.proofs.even_at.Statement.{statement}
 use Rattle.line.proofs.even_at.Tie as tie
@@ -12,28 +13,28 @@ pair-before-requires : tie.Need-pair-before-requires
 pair-before-requires c κs = search needs
 
 mul-even-of : tie.Need-mul-even-of
-mul-even-of c = search needs
+mul-even-of c = omega arith
 
 shared-slice-copy-out-even-of : tie.Need-shared-slice-copy-out-even-of
-shared-slice-copy-out-even-of c = search needs
+shared-slice-copy-out-even-of c = omega arith
 
 add-even-of : tie.Need-add-even-of
-add-even-of c = search needs
+add-even-of c = omega arith
 
 mul-even-of-2 : tie.Need-mul-even-of-2
-mul-even-of-2 c = search needs
+mul-even-of-2 c = omega arith
 
 shared-slice-copy-out-even-of-2 : tie.Need-shared-slice-copy-out-even-of-2
-shared-slice-copy-out-even-of-2 c = search needs
+shared-slice-copy-out-even-of-2 c = omega arith
 
 add-even-of-2 : tie.Need-add-even-of-2
-add-even-of-2 c = search needs
+add-even-of-2 c = omega arith
 
 mul-even-of-3 : tie.Need-mul-even-of-3
-mul-even-of-3 c = search needs
+mul-even-of-3 c = omega arith
 
 shared-slice-copy-out-even-of-3 : tie.Need-shared-slice-copy-out-even-of-3
-shared-slice-copy-out-even-of-3 c = search needs
+shared-slice-copy-out-even-of-3 c = omega arith
 
 even-of-requires : tie.Need-even-of-requires
 even-of-requires c κs = let e = c .before .before .before .before .pre .0 in (pass (e _) tt tt, (pass (e _) tt tt, pass (e _) tt tt))

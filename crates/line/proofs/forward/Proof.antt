@@ -11,7 +11,6 @@ use Rattle.integers.specs.Machine.{read, pass}
 use Rattle.paper.specs.Line.{highAt, lowAt}
 use Rattle.line.proofs.Lines.{forward-is, high-at-within}
 use Rattle.line.proofs.Pairs.{Paired, paired-none, paired-more, free-halves}
-use borrow.Author.Needs.{needs}
 use Rattle.line.proofs.forward.Statement.{statement}
 use Rattle.line.proofs.forward.Tie as tie
 
@@ -32,13 +31,13 @@ high-at-requires-2 : tie.Need-high-at-requires-2 Inv-loop μ-loop
 high-at-requires-2 c κs = (c .before .before .before .pre .0, (omega arith, omega arith))
 
 mul-low-of : tie.Need-mul-low-of Inv-loop μ-loop
-mul-low-of c = search needs
+mul-low-of c = omega arith
 
 mul-low-of-2 : tie.Need-mul-low-of-2 Inv-loop μ-loop
-mul-low-of-2 c = search needs
+mul-low-of-2 c = omega arith
 
 shared-slice-copy-out-low-of : tie.Need-shared-slice-copy-out-low-of Inv-loop μ-loop
-shared-slice-copy-out-low-of c = search needs
+shared-slice-copy-out-low-of c = omega arith
 
 low-of-requires : tie.Need-low-of-requires Inv-loop μ-loop
 low-of-requires c κs =
@@ -49,25 +48,25 @@ low-of-requires c κs =
     (pass (e (2 * i)) tt tt, (rw (l .loop .inv .2) (pass (high-at-within x (i - 1) e) tt tt), rw (c .before .high-at2 .ensures) (pass (high-at-within x i e) tt tt)))
 
 mul-t14 : tie.Need-mul-t14 Inv-loop μ-loop
-mul-t14 c = search needs
+mul-t14 c = omega arith
 
 slice-set-from-out : tie.Need-slice-set-from-out Inv-loop μ-loop
-slice-set-from-out c = search needs
+slice-set-from-out c = omega arith
 
 add-high : tie.Need-add-high Inv-loop μ-loop
-add-high c = search needs
+add-high c = omega arith
 
 mul-high : tie.Need-mul-high Inv-loop μ-loop
-mul-high c = search needs
+mul-high c = omega arith
 
 slice-set-from-high : tie.Need-slice-set-from-high Inv-loop μ-loop
 slice-set-from-high c = simp length-set (omega arith)
 
 add-i : tie.Need-add-i Inv-loop μ-loop
-add-i c = search needs
+add-i c = omega arith
 
 loop-less : tie.Need-loop-less Inv-loop μ-loop
-loop-less c = search needs
+loop-less c = omega arith
 
 loop-again : tie.Need-loop-again Inv-loop μ-loop
 unfolding lowAt

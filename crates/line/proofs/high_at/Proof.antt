@@ -6,6 +6,7 @@ use Rattle.integers.specs.Machine.{read, pass}
 use Rattle.paper.specs.Line.{highAt}
 use lib.ListN.{length}
 use Rattle.line.proofs.Lines.{mirrored}
+use native.Mathlib.Omega.{arith}
 use borrow.Author.Needs.{needs}
 use Rattle.line.proofs.high_at.Statement.{statement}
 use Rattle.line.proofs.high_at.Tie as tie
@@ -14,34 +15,34 @@ pair-after-requires : tie.Need-pair-after-requires
 pair-after-requires c κs = search needs
 
 mul-high-of : tie.Need-mul-high-of
-mul-high-of c = search needs
+mul-high-of c = omega arith
 
 add-high-of : tie.Need-add-high-of
-add-high-of c = search needs
+add-high-of c = omega arith
 
 mul-high-of-2 : tie.Need-mul-high-of-2
-mul-high-of-2 c = search needs
+mul-high-of-2 c = omega arith
 
 shared-slice-copy-out-high-of : tie.Need-shared-slice-copy-out-high-of
-shared-slice-copy-out-high-of c = search needs
+shared-slice-copy-out-high-of c = omega arith
 
 mul-high-of-3 : tie.Need-mul-high-of-3
-mul-high-of-3 c = search needs
+mul-high-of-3 c = omega arith
 
 mul-high-of-4 : tie.Need-mul-high-of-4
-mul-high-of-4 c = search needs
+mul-high-of-4 c = omega arith
 
 shared-slice-copy-out-high-of-2 : tie.Need-shared-slice-copy-out-high-of-2
-shared-slice-copy-out-high-of-2 c = search needs
+shared-slice-copy-out-high-of-2 c = omega arith
 
 mul-high-of-5 : tie.Need-mul-high-of-5
-mul-high-of-5 c = search needs
+mul-high-of-5 c = omega arith
 
 mul-high-of-6 : tie.Need-mul-high-of-6
-mul-high-of-6 c = search needs
+mul-high-of-6 c = omega arith
 
 shared-slice-copy-out-high-of-3 : tie.Need-shared-slice-copy-out-high-of-3
-shared-slice-copy-out-high-of-3 c = search needs
+shared-slice-copy-out-high-of-3 c = omega arith
 
 high-of-requires : tie.Need-high-of-requires
 high-of-requires c κs = let e = c .before .before .before .before .pre .0 in (pass (e _) tt tt, (pass (e _) tt tt, pass (e _) tt tt))

@@ -24,10 +24,10 @@ place-requires : tie.Need-place-requires Inv-loop μ-loop
 place-requires c κs = search needs
 
 mul-xs : tie.Need-mul-xs Inv-loop μ-loop
-mul-xs c = search needs
+mul-xs c = omega arith
 
 shared-slice-copy-out-xs : tie.Need-shared-slice-copy-out-xs Inv-loop μ-loop
-shared-slice-copy-out-xs c = search needs
+shared-slice-copy-out-xs c = omega arith
 
 mul-t13 : tie.Need-mul-t13 Inv-loop μ-loop
 mul-t13 c =
@@ -42,10 +42,10 @@ slice-set-from-xs c =
     omega (arith, c .before .place .ensures, place-below (a .j) (a .down) (a .l) (t .loop .i), t .loop .inv .1 .size)
 
 add-i : tie.Need-add-i Inv-loop μ-loop
-add-i c = search needs
+add-i c = omega arith
 
 loop-less : tie.Need-loop-less Inv-loop μ-loop
-loop-less c = search needs
+loop-less c = omega arith
 
 loop-again : tie.Need-loop-again Inv-loop μ-loop
 loop-again c =
@@ -57,7 +57,7 @@ loop-again c =
     )
 
 same-length : tie.Need-same-length Inv-loop μ-loop
-same-length c = search needs
+same-length c = omega arith
 
 returns : tie.Need-returns Inv-loop μ-loop
 returns c =

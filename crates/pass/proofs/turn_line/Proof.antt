@@ -2,7 +2,7 @@
 use mathlib.Core.Path.{ap, _∙_}
 use Rattle.pass.specs.Way.{way}
 use Rattle.pass.proofs.Lines.{gathered, turned, put-as}
-use borrow.Author.Needs.{needs}
+use native.Mathlib.Omega.{arith}
 use Rattle.pass.proofs.turn_line.Statement.{statement}
 use Rattle.pass.proofs.turn_line.Tie as tie
 
@@ -27,13 +27,13 @@ scatter-requires c κs =
     (p .0, (p .1 .1 .0, (p .1 .1 .1 .0, turned (a .j) (a .down) (a .xs .now) (a .l) _ (p .1 .0) (g .gather .ensures) (p .1 .1 .1 .1 .0) (a .back) _ (t .turn .ensures))))
 
 same-length : tie.Need-same-length
-same-length c = search needs
+same-length c = omega arith
 
 same-length-2 : tie.Need-same-length-2
-same-length-2 c = search needs
+same-length-2 c = omega arith
 
 same-length-3 : tie.Need-same-length-3
-same-length-3 c = search needs
+same-length-3 c = omega arith
 
 returns : tie.Need-returns
 returns c =

@@ -32,10 +32,10 @@ turn-line-requires c κs =
     (p .0, (p .1 .0, (b, (P .size ∙ p .1 .1 .0, (rw e (line-each (a .j) (a .down) (a .xs .now) (t .loop .l) (p .1 .1 .1 .0)), (t .loop .inv .1, t .loop .inv .2))))))
 
 add-l : tie.Need-add-l Inv-loop μ-loop
-add-l c = search needs
+add-l c = omega arith
 
 loop-less : tie.Need-loop-less Inv-loop μ-loop
-loop-less c = search needs
+loop-less c = omega arith
 
 loop-again : tie.Need-loop-again Inv-loop μ-loop
 loop-again c =
@@ -45,13 +45,13 @@ loop-again c =
     (omega arith, search needs, search needs, passed-more (way (a .back)) (a .j) (a .down) (t .loop .l) (a .xs .now) (t .loop .xs) _ (omega arith) (t .loop .inv .3) (r .turn-line .ensures))
 
 same-length : tie.Need-same-length Inv-loop μ-loop
-same-length c = search needs
+same-length c = omega arith
 
 same-length-2 : tie.Need-same-length-2 Inv-loop μ-loop
-same-length-2 c = search needs
+same-length-2 c = omega arith
 
 same-length-3 : tie.Need-same-length-3 Inv-loop μ-loop
-same-length-3 c = search needs
+same-length-3 c = omega arith
 
 returns : tie.Need-returns Inv-loop μ-loop
 returns c =

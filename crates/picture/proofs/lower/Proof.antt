@@ -35,16 +35,16 @@ lower-grey-requires : tie.Need-lower-grey-requires Inv-loop μ-loop
 lower-grey-requires c κs = search needs
 
 mul-t7 : tie.Need-mul-t7 Inv-loop μ-loop
-mul-t7 c = search needs
+mul-t7 c = omega arith
 
 slice-set-from-xs : tie.Need-slice-set-from-xs Inv-loop μ-loop
-slice-set-from-xs c = search needs
+slice-set-from-xs c = omega arith
 
 add-z : tie.Need-add-z Inv-loop μ-loop
-add-z c = search needs
+add-z c = omega arith
 
 loop-less : tie.Need-loop-less Inv-loop μ-loop
-loop-less c = search needs
+loop-less c = omega arith
 
 loop-again : tie.Need-loop-again Inv-loop μ-loop
 loop-again c =
@@ -58,7 +58,7 @@ loop-again c =
     )
 
 same-length : tie.Need-same-length Inv-loop μ-loop
-same-length c = search needs
+same-length c = omega arith
 
 returns : tie.Need-returns Inv-loop μ-loop
 unfolding lowered

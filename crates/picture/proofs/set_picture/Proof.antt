@@ -41,13 +41,13 @@ set-grey-requires : tie.Need-set-grey-requires Inv-loop μ-loop
 set-grey-requires c κs = search needs
 
 slice-write-picture : tie.Need-slice-write-picture Inv-loop μ-loop
-slice-write-picture c = search needs
+slice-write-picture c = omega arith
 
 add-p : tie.Need-add-p Inv-loop μ-loop
-add-p c = search needs
+add-p c = omega arith
 
 loop-less : tie.Need-loop-less Inv-loop μ-loop
-loop-less c = search needs
+loop-less c = omega arith
 
 loop-again : tie.Need-loop-again Inv-loop μ-loop
 loop-again c =
@@ -62,7 +62,7 @@ loop-again c =
     )
 
 same-length : tie.Need-same-length Inv-loop μ-loop
-same-length c = search needs
+same-length c = omega arith
 
 returns : tie.Need-returns Inv-loop μ-loop
 unfolding pictured

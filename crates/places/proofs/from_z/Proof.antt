@@ -47,10 +47,10 @@ mul-w : tie.Need-mul-w Inv-loop μ-loop
 mul-w c = omega (arith, small (c .before) (omega arith))
 
 add-i : tie.Need-add-i Inv-loop μ-loop
-add-i c = search needs
+add-i c = omega arith
 
 loop-less : tie.Need-loop-less Inv-loop μ-loop
-loop-less c = search needs
+loop-less c = omega arith
 
 loop-again : tie.Need-loop-again Inv-loop μ-loop
 unfolding rowOf columnOf

@@ -38,10 +38,10 @@ loop-holds c =
     (search needs, refl, search needs, begun (λ j. interleaved j (p / s) (p % s)) (c .before .args .k))
 
 mul-z : tie.Need-mul-z Inv-loop μ-loop
-mul-z c = search needs
+mul-z c = omega arith
 
 add-z : tie.Need-add-z Inv-loop μ-loop
-add-z c = search needs
+add-z c = omega arith
 
 mul-z-2 : tie.Need-mul-z-2 Inv-loop μ-loop
 mul-z-2 c = omega (arith, small (c .before) (omega arith))
@@ -53,10 +53,10 @@ mul-w : tie.Need-mul-w Inv-loop μ-loop
 mul-w c = omega (arith, small (c .before) (omega arith))
 
 add-i : tie.Need-add-i Inv-loop μ-loop
-add-i c = search needs
+add-i c = omega arith
 
 loop-less : tie.Need-loop-less Inv-loop μ-loop
-loop-less c = search needs
+loop-less c = omega arith
 
 loop-again : tie.Need-loop-again Inv-loop μ-loop
 unfolding interleaved

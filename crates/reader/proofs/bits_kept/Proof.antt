@@ -1,3 +1,4 @@
+-- `bits_kept`: full blocks and the last; two bytes are below 65,536, so the sum fits.
 use Prim.Native.Nat.{_-_}
 use Rattle.reader.proofs.Turn.{bits-last}
 use Rattle.records.specs.Turn.{pair-small}

@@ -1,3 +1,4 @@
+-- `copy_full`. The invariant: the payload of the first i blocks stands one behind the other, and what lies behind is untouched.
 use Rattle.reader.proofs.Payload.{payload-more}
 use Rattle.records.specs.Parts.{none-joined}
 use Rattle.paper.specs.Record.{blockAt}

@@ -1,3 +1,4 @@
+-- `copy_kept`: the full blocks, then the used bytes of the last.
 use Rattle.reader.proofs.Payload.{payload-last}
 use Rattle.reader.proofs.Turn.{bits-low}
 use Rattle.paper.specs.Record.{bitsKept, payloadKept}

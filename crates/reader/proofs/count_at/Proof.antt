@@ -1,3 +1,4 @@
+-- `count_at` reads bytes 14 and 15 of the part that is block i.
 use Rattle.reader.proofs.Turn.{part-is}
 use Rattle.paper.specs.Block.{countOf}
 use mathlib.Core.Path.{ap, _∙_}

@@ -1,6 +1,6 @@
-use borrow.Author.Tests.{not-true, not-false}
+-- `in_turn`: three tests, each by what its callee ensures.
 use Rattle.reader.proofs.Turn.{first-fails, second-fails, third-decides}
-use borrow.Author.Tests.{eq-eqb, ne-eqb}
+use borrow.Author.Tests.{eq-eqb, ne-eqb, not-true, not-false}
 use mathlib.Core.Path.{sym, _∙_}
 use borrow.Author.Needs.{needs}
 use Rattle.reader.proofs.in_turn.Statement.{statement}
@@ -38,14 +38,14 @@ returns-2 : tie.Need-returns-2
 returns-2 c =
     second-fails _ (eq-eqb _ _ (sym (c .before .before .before .before .before .pair-at .ensures) ∙ c .before .before .before .before .if1 .left)) (sym (c .before .same-bytes .ensures) ∙ not-true _ (c .if2 .taken))
 
-sub-same-bytes-3 : tie.Need-sub-same-bytes-3
-sub-same-bytes-3 c = search needs
+sub-name : tie.Need-sub-name
+sub-name c = search needs
 
-part-same-bytes-start-3 : tie.Need-part-same-bytes-start-3
-part-same-bytes-start-3 c = search needs
+part-name-start : tie.Need-part-name-start
+part-name-start c = search needs
 
-part-same-bytes-end-3 : tie.Need-part-same-bytes-end-3
-part-same-bytes-end-3 c = search needs
+part-name-end : tie.Need-part-name-end
+part-name-end c = search needs
 
 same-bytes-requires-2 : tie.Need-same-bytes-requires-2
 same-bytes-requires-2 c κs = search needs
@@ -68,8 +68,8 @@ in-turn-spec =
     part-same-bytes-end-2
     same-bytes-requires
     returns-2
-    sub-same-bytes-3
-    part-same-bytes-start-3
-    part-same-bytes-end-3
+    sub-name
+    part-name-start
+    part-name-end
     same-bytes-requires-2
     returns-3)

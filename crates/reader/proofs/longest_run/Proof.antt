@@ -1,3 +1,4 @@
+-- `longest_run`. The invariant: the run from block i on is the whole run.
 use Rattle.reader.proofs.Turn.{run-start, run-fails, run-short, run-more, run-ends}
 use Rattle.paper.specs.Record.{runOf, runFrom}
 use lib.ListN.{length}

@@ -1,3 +1,4 @@
+-- `put_payload` covers its place with the first n payload bytes.
 use Rattle.reader.proofs.Payload.{payload-put}
 use borrow.Author.Needs.{needs}
 use Rattle.reader.proofs.put_payload.Statement.{statement}

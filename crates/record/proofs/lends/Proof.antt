@@ -1,4 +1,5 @@
-use Rattle.record.proofs.Rows.{lends-exact}
+-- `lends`: eight bits a byte, compared by whole bytes.
+use Rattle.record.proofs.Table.{lends-exact}
 use borrow.Author.Tests.{le-leb, lt-leb}
 use native.Mathlib.Omega.{arith}
 use mathlib.Core.Path.{sym}

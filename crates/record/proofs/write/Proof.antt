@@ -1,5 +1,6 @@
+-- `write` is the writing job: refused by its rows, or done by the blocks at the front of the room.
 use Rattle.record.proofs.Writing.{write-rows, write-refused, write-done, few-blocks}
-use Rattle.records.specs.BothJobs.{accepted}
+use Rattle.records.specs.BothJobs.{Accepted, accepted}
 use Rattle.block.proofs.Blocks.{label-length}
 use Rattle.sizes.proofs.Ranges.{size-high, levels-few, planes-few}
 use Rattle.paper.specs.Jobs.{writingRefusal}
@@ -15,44 +16,37 @@ write-refusal-requires c κs = search needs
 returns : tie.Need-returns
 returns c =
     let args = c .before .before .before .before .before .args in
-    let rows = write-rows (args .k) (args .levels) (args .n) (args .label .now) (args .bytes .now) (args .b) (args .room .now) (c .before .write-refusal .ensures) in
-    write-refused (args .k) (args .levels) (args .n) (args .label .now) (args .bytes .now) (args .b) (args .room .now) (c .before .write-refusal .result) rows (omega arith)
+    let refusal = c .before .write-refusal in
+    write-refused (args .k) (args .levels) (args .n) (args .label .now) (args .bytes .now) (args .b) (args .room .now) (refusal .result) (write-rows (args .k) (args .levels) (args .n) (args .label .now) (args .bytes .now) (args .b) (args .room .now) (refusal .ensures)) (omega arith)
+
+-- no row applies
+passed : (c : tie.Else1) → writingRefusal (c .before .before .before .before .before .args .k) (c .before .before .before .before .before .args .levels) (c .before .before .before .before .before .args .n) (c .before .before .before .before .before .args .label .now) (c .before .before .before .before .before .args .bytes .now) (c .before .before .before .before .before .args .b) (c .before .before .before .before .before .args .room .now) ≡ 0
+passed c =
+    let args = c .before .before .before .before .before .args in
+    write-rows (args .k) (args .levels) (args .n) (args .label .now) (args .bytes .now) (args .b) (args .room .now) (c .before .write-refusal .ensures) ∙ omega arith
+
+asked : (c : tie.Else1) → Accepted (c .before .before .before .before .before .args .k) (c .before .before .before .before .before .args .levels) (c .before .before .before .before .before .args .n) (c .before .before .before .before .before .args .label .now) (c .before .before .before .before .before .args .bytes .now) (c .before .before .before .before .before .args .b) (c .before .before .before .before .before .args .room .now)
+asked c =
+    let args = c .before .before .before .before .before .args in
+    accepted (args .k) (args .levels) (args .n) (args .label .now) (args .bytes .now) (args .b) (args .room .now) (passed c)
 
 blocks-for-requires : tie.Need-blocks-for-requires
-blocks-for-requires c κs =
-    let args = c .before .before .before .before .before .args in
-    let rows = write-rows (args .k) (args .levels) (args .n) (args .label .now) (args .bytes .now) (args .b) (args .room .now) (c .before .write-refusal .ensures) in
-    let passed : writingRefusal (args .k) (args .levels) (args .n) (args .label .now) (args .bytes .now) (args .b) (args .room .now) ≡ 0 = rows ∙ omega arith in
-    few-blocks (args .k) (args .levels) (args .n) (args .label .now) (args .bytes .now) (args .b) (args .room .now) passed
+blocks-for-requires c κs = few-blocks (asked c)
 
 cast-write-blocks : tie.Need-cast-write-blocks
-cast-write-blocks c =
-    let args = c .before .before .before .before .before .before .before .args in
-    let rows = write-rows (args .k) (args .levels) (args .n) (args .label .now) (args .bytes .now) (args .b) (args .room .now) (c .before .before .before .write-refusal .ensures) in
-    let passed : writingRefusal (args .k) (args .levels) (args .n) (args .label .now) (args .bytes .now) (args .b) (args .room .now) ≡ 0 = rows ∙ omega arith in
-    record { fits = omega (arith, size-high (args .k) (accepted (args .k) (args .levels) (args .n) (args .label .now) (args .bytes .now) (args .b) (args .room .now) passed .size)) }
+cast-write-blocks c = record { fits = omega (arith, size-high _ (asked (c .before .before) .size)) }
 
 cast-write-blocks-2 : tie.Need-cast-write-blocks-2
-cast-write-blocks-2 c =
-    let args = c .before .before .before .before .before .before .before .args in
-    let rows = write-rows (args .k) (args .levels) (args .n) (args .label .now) (args .bytes .now) (args .b) (args .room .now) (c .before .before .before .write-refusal .ensures) in
-    let passed : writingRefusal (args .k) (args .levels) (args .n) (args .label .now) (args .bytes .now) (args .b) (args .room .now) ≡ 0 = rows ∙ omega arith in
-    record { fits = omega (arith, levels-few (args .k) (args .levels) (accepted (args .k) (args .levels) (args .n) (args .label .now) (args .bytes .now) (args .b) (args .room .now) passed .levels)) }
+cast-write-blocks-2 c = record { fits = omega (arith, levels-few _ _ (asked (c .before .before) .levels)) }
 
 cast-write-blocks-3 : tie.Need-cast-write-blocks-3
-cast-write-blocks-3 c =
-    let args = c .before .before .before .before .before .before .before .args in
-    let rows = write-rows (args .k) (args .levels) (args .n) (args .label .now) (args .bytes .now) (args .b) (args .room .now) (c .before .before .before .write-refusal .ensures) in
-    let passed : writingRefusal (args .k) (args .levels) (args .n) (args .label .now) (args .bytes .now) (args .b) (args .room .now) ≡ 0 = rows ∙ omega arith in
-    record { fits = omega (arith, planes-few (args .n) (accepted (args .k) (args .levels) (args .n) (args .label .now) (args .bytes .now) (args .b) (args .room .now) passed .planes)) }
+cast-write-blocks-3 c = record { fits = omega (arith, planes-few _ (asked (c .before .before) .planes)) }
 
 write-blocks-requires : tie.Need-write-blocks-requires
 write-blocks-requires c κs =
-    let args = c .before .before .before .before .before .before .before .args in
-    let rows = write-rows (args .k) (args .levels) (args .n) (args .label .now) (args .bytes .now) (args .b) (args .room .now) (c .before .before .before .write-refusal .ensures) in
-    let passed : writingRefusal (args .k) (args .levels) (args .n) (args .label .now) (args .bytes .now) (args .b) (args .room .now) ≡ 0 = rows ∙ omega arith in
-    let asked = accepted (args .k) (args .levels) (args .n) (args .label .now) (args .bytes .now) (args .b) (args .room .now) passed in
-    (omega (arith, asked .fits, c .before .blocks-for .ensures), (label-length (args .label .now) (asked .labelled), (asked .lent, omega (arith, few-blocks (args .k) (args .levels) (args .n) (args .label .now) (args .bytes .now) (args .b) (args .room .now) passed, c .before .blocks-for .ensures))))
+    let a = asked (c .before .before) in
+    let blocks = c .before .blocks-for .ensures in
+    (omega (arith, a .fits, blocks), (label-length _ (a .labelled), (a .lent, omega (arith, few-blocks a, blocks))))
 
 same-length : tie.Need-same-length
 same-length c = search needs
@@ -60,9 +54,9 @@ same-length c = search needs
 returns-2 : tie.Need-returns-2
 returns-2 c =
     let args = c .before .before .before .before .before .before .before .before .before .before .args in
-    let rows = write-rows (args .k) (args .levels) (args .n) (args .label .now) (args .bytes .now) (args .b) (args .room .now) (c .before .before .before .before .before .before .write-refusal .ensures) in
-    let passed : writingRefusal (args .k) (args .levels) (args .n) (args .label .now) (args .bytes .now) (args .b) (args .room .now) ≡ 0 = rows ∙ omega arith in
-    write-done (args .k) (args .levels) (args .n) (args .label .now) (args .bytes .now) (args .b) (args .room .now) passed (c .before .before .before .before .blocks-for .result) (c .before .before .write-blocks .last .0) (c .before .before .before .before .blocks-for .ensures) (c .before .before .write-blocks .ensures)
+    let blocks = c .before .before .before .before .blocks-for in
+    let written = c .before .before .write-blocks in
+    write-done (args .k) (args .levels) (args .n) (args .label .now) (args .bytes .now) (args .b) (args .room .now) (passed (c .before .before .before .before .before)) (blocks .result) (written .last .0) (blocks .ensures) (written .ensures)
 
 pub write-spec : {M : Type 1} → statement M
 write-spec =

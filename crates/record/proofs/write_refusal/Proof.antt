@@ -1,4 +1,5 @@
-use Rattle.record.proofs.Rows.{row-refused, row-left}
+-- `write_refusal`: rows 1 and 2 by `sizes`, then 5, then 6 and 7.
+use Rattle.record.proofs.Table.{row-refused, row-left, rows-are}
 use Rattle.sizes.proofs.Refusals.{size-accepted, sizes-stand, sizes-leave}
 use Rattle.paper.specs.Jobs.{sizesRefusal}
 use borrow.Author.Tests.{not-true, not-false}
@@ -31,26 +32,17 @@ fits-requires c κs =
     let passed : sizesRefusal (args .k) (args .levels) 0 ≡ 0 = sym (c .before .before .before .sizes-refusal .ensures) ∙ omega arith in
     (size-accepted (args .k) (args .levels) 0 passed, sym (c .before .planes-in .ensures) ∙ not-false _ (c .if2 .left))
 
-returns-3 : tie.Need-returns-3
-returns-3 c =
-    let args = c .before .before .before .before .before .before .before .args in
-    let passed : sizesRefusal (args .k) (args .levels) 0 ≡ 0 = sym (c .before .before .before .before .before .sizes-refusal .ensures) ∙ omega arith in
-    row-refused 6 _ (sym (c .before .fits2 .ensures) ∙ not-true _ (c .if3 .taken)) ∙ row-left 5 _ (sym (c .before .before .before .planes-in .ensures) ∙ not-false _ (c .before .before .if2 .left)) ∙ sym (sizes-leave (args .k) (args .levels) _ passed)
-
 is-label-requires : tie.Need-is-label-requires
 is-label-requires c κs = search needs
 
-returns-4 : tie.Need-returns-4
-returns-4 c =
-    let args = c .before .before .before .before .before .before .before .before .before .args in
-    let passed : sizesRefusal (args .k) (args .levels) 0 ≡ 0 = sym (c .before .before .before .before .before .before .before .sizes-refusal .ensures) ∙ omega arith in
-    row-left 7 0 (sym (c .before .is-label .ensures) ∙ c .if4 .taken) ∙ row-left 6 _ (sym (c .before .before .before .fits2 .ensures) ∙ not-false _ (c .before .before .if3 .left)) ∙ row-left 5 _ (sym (c .before .before .before .before .before .planes-in .ensures) ∙ not-false _ (c .before .before .before .before .if2 .left)) ∙ sym (sizes-leave (args .k) (args .levels) _ passed)
+rows-requires : tie.Need-rows-requires
+rows-requires c κs = search needs
 
-returns-5 : tie.Need-returns-5
-returns-5 c =
-    let args = c .before .before .before .before .before .before .before .before .before .args in
-    let passed : sizesRefusal (args .k) (args .levels) 0 ≡ 0 = sym (c .before .before .before .before .before .before .before .sizes-refusal .ensures) ∙ omega arith in
-    row-refused 7 0 (sym (c .before .is-label .ensures) ∙ c .if4 .left) ∙ row-left 6 _ (sym (c .before .before .before .fits2 .ensures) ∙ not-false _ (c .before .before .if3 .left)) ∙ row-left 5 _ (sym (c .before .before .before .before .before .planes-in .ensures) ∙ not-false _ (c .before .before .before .before .if2 .left)) ∙ sym (sizes-leave (args .k) (args .levels) _ passed)
+returns-3 : tie.Need-returns-3
+returns-3 c =
+    let args = c .before .before .before .before .before .before .before .before .args in
+    let passed : sizesRefusal (args .k) (args .levels) 0 ≡ 0 = sym (c .before .before .before .before .before .before .sizes-refusal .ensures) ∙ omega arith in
+    rows-are (c .rows .ensures) (c .before .before .fits2 .ensures) (c .before .is-label .ensures) ∙ row-left 5 _ (sym (c .before .before .before .before .planes-in .ensures) ∙ not-false _ (c .before .before .before .if2 .left)) ∙ sym (sizes-leave (args .k) (args .levels) _ passed)
 
 pub write-refusal-spec : {M : Type 1} → statement M
 write-refusal-spec =
@@ -61,7 +53,6 @@ write-refusal-spec =
     planes-in-requires
     returns-2
     fits-requires
-    returns-3
     is-label-requires
-    returns-4
-    returns-5)
+    rows-requires
+    returns-3)

@@ -26,14 +26,14 @@ threshold-requires c κs = search needs
 loop-holds : tie.Need-loop-holds Inv-loop μ-loop
 loop-holds c = (omega arith, none-passed _ _, none-passed _ _)
 
-mul-mag : tie.Need-mul-mag Inv-loop μ-loop
-mul-mag c = search needs
+mul-magnitude : tie.Need-mul-magnitude Inv-loop μ-loop
+mul-magnitude c = search needs
 
-shared-slice-copy-out-mag : tie.Need-shared-slice-copy-out-mag Inv-loop μ-loop
-shared-slice-copy-out-mag c = search needs
+shared-slice-copy-out-magnitude : tie.Need-shared-slice-copy-out-magnitude Inv-loop μ-loop
+shared-slice-copy-out-magnitude c = search needs
 
-mag-requires : tie.Need-mag-requires Inv-loop μ-loop
-mag-requires c κs = let S = c .before .before .before .before in pass (number-in (S .args .xs .now) (c .before .before .loop .i) (S .pre .0)) tt tt
+magnitude-requires : tie.Need-magnitude-requires Inv-loop μ-loop
+magnitude-requires c κs = let S = c .before .before .before .before in pass (number-in (S .args .xs .now) (c .before .before .loop .i) (S .pre .0)) tt tt
 
 mul-if3 : tie.Need-mul-if3 Inv-loop μ-loop
 mul-if3 c =
@@ -53,7 +53,7 @@ loop-again c =
     let xs = S .args .xs .now in
     let i = P .loop .i in
     let l : i < length xs = c .before .before .before .before .if1 .left in
-    let e : c .before .before .mag .result ≡ natAbs (at xs i) = c .before .before .mag .ensures ∙ ap natAbs (read (number-in xs i (S .pre .0)) tt) in (
+    let e : c .before .before .magnitude .result ≡ natAbs (at xs i) = c .before .before .magnitude .ensures ∙ ap natAbs (read (number-in xs i (S .pre .0)) tt) in (
       omega arith,
       pass-no _ _ xs false i l e (P .loop .inv .1) (c .before .if3 .left),
       ⊎-elim
@@ -81,7 +81,7 @@ returns-3 c =
     let xs = S .args .xs .now in
     let i = P .loop .i in
     let l : i < length xs = c .before .before .before .if1 .left in
-    let e : c .before .mag .result ≡ natAbs (at xs i) = c .before .mag .ensures ∙ ap natAbs (read (number-in xs i (S .pre .0)) tt) in
+    let e : c .before .magnitude .result ≡ natAbs (at xs i) = c .before .magnitude .ensures ∙ ap natAbs (read (number-in xs i (S .pre .0)) tt) in
     seen-is _ _ xs true _ (P .before .threshold .ensures) (found _ _ xs false i l e (P .loop .inv .1) (c .if3 .taken)) refl
 
 pub scan-spec : {M : Type 1} → statement M
@@ -92,9 +92,9 @@ scan-spec =
     μ-loop
     threshold-requires
     loop-holds
-    mul-mag
-    shared-slice-copy-out-mag
-    mag-requires
+    mul-magnitude
+    shared-slice-copy-out-magnitude
+    magnitude-requires
     mul-if3
     add-i
     loop-less

@@ -43,10 +43,10 @@ set-picture-requires c κs =
     (size-high (a .k) (p .0), (ap length e ∙ length-greys (a .k) (a .levels) (a .numbers .now), (rw e (greys-each (a .levels) (a .k) (a .numbers .now) l (omega arith) (p .1 .1 .0) (p .1 .1 .1 .0)), picture-accepted (a .k) (a .levels) (a .numbers .now) (a .picture .now) (a .room .now) _ r z)))
 
 same-length-3 : tie.Need-same-length-3
-same-length-3 c = search needs
+same-length-3 c = omega arith
 
 same-length-4 : tie.Need-same-length-4
-same-length-4 c = search needs
+same-length-4 c = omega arith
 
 returns-2 : tie.Need-returns-2
 returns-2 c =

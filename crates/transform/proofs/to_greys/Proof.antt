@@ -7,7 +7,6 @@ use Rattle.sizes.proofs.Ranges.{size-high, levels-few, levels-less}
 use Rattle.square.specs.Undone.{length-levels-back}
 use Rattle.square.specs.Numbers.{backs-each}
 use Rattle.transform.proofs.Fits.{numbers-fit, numbers-small}
-use borrow.Author.Needs.{needs}
 use Rattle.transform.proofs.to_greys.Statement.{statement}
 use Rattle.transform.proofs.to_greys.Tie as tie
 
@@ -39,7 +38,7 @@ raise-requires c κs =
     rw (done v) (backs-each (a .levels) (a .k) (a .numbers .now) (levels-few (a .k) (a .levels) (p .1 .0)) (omega (arith, levels-less (a .k) (a .levels) (p .1 .0))) (p .1 .1 .0) (p .1 .1 .1 .0))
 
 same-length : tie.Need-same-length
-same-length c = search needs
+same-length c = omega arith
 
 returns : tie.Need-returns
 unfolding greysOf

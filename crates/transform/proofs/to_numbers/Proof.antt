@@ -6,7 +6,6 @@ use Rattle.paper.specs.Square.{levelsForward, numbersOf}
 use Rattle.sizes.proofs.Ranges.{size-high, levels-few, levels-less}
 use Rattle.square.specs.Numbers.{length-lowered, numbers-in}
 use Rattle.transform.proofs.Fits.{picture-fits}
-use borrow.Author.Needs.{needs}
 use Rattle.transform.proofs.to_numbers.Statement.{statement}
 use Rattle.transform.proofs.to_numbers.Tie as tie
 
@@ -24,7 +23,7 @@ forward-requires c κs =
     (size-high (a .k) (p .0), (omega (arith, levels-less (a .k) (a .levels) (p .1 .0)), (ap length e ∙ length-lowered (a .k) (a .picture .now), rw e (picture-fits (a .k) (a .levels) (a .picture .now) (p .1 .0) (λ i. omega (arith, b i))))))
 
 same-length : tie.Need-same-length
-same-length c = search needs
+same-length c = omega arith
 
 returns : tie.Need-returns
 unfolding numbersOf

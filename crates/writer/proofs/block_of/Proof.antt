@@ -1,3 +1,4 @@
+-- `block_of` is the definition's block: the count by arithmetic, the payload and the block by their contracts.
 use Rattle.writer.proofs.Blocks.{block-is}
 use borrow.Author.Needs.{needs}
 use Rattle.writer.proofs.block_of.Statement.{statement}

@@ -1,3 +1,4 @@
+-- `byte_at`: whole bytes before the b-th bit, of the byte that holds it the bits before it, zeros behind.
 use Rattle.writer.proofs.Bytes.{byte-before, byte-after, byte-none, byte-seam}
 use mathlib.Core.Path.{_∙_}
 use native.Mathlib.Omega.{arith}

@@ -1,3 +1,4 @@
+-- `fill`. The invariant: the first i bytes are filled, the others as they were.
 use Rattle.writer.proofs.Bytes.{filled-none, filled-more, filled}
 use Rattle.paper.specs.Bits.{bits, packed}
 use lib.ListN.{length, take, drop, length-set}

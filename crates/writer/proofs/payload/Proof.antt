@@ -1,3 +1,4 @@
+-- `payload` is what `fill` makes of 492 zero bytes.
 use Rattle.writer.proofs.Bytes.{payload-is}
 use Rattle.paper.specs.Bits.{bits}
 use lib.ListN.{take}

@@ -1,3 +1,4 @@
+-- `put_block` covers its place with the block.
 use Rattle.block.proofs.Copies.{over-whole}
 use native.Mathlib.Omega.{arith}
 use mathlib.Core.Path.{_∙_}

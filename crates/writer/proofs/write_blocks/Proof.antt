@@ -1,3 +1,4 @@
+-- `write_blocks`. The invariant: the first blocks stand one behind the other, and what lies behind them is untouched.
 use Rattle.writer.proofs.Blocks.{one-written}
 use Rattle.records.specs.Parts.{none-joined}
 use Rattle.paper.specs.Record.{blockOf}
@@ -14,10 +15,10 @@ use Rattle.writer.proofs.write_blocks.Statement.{statement}
 use Rattle.writer.proofs.write_blocks.Tie as tie
 
 abbrev Inv-loop : tie.InvT-loop
-Inv-loop room₀ k levels n label bytes b blocks i₀ room i = (i ≤ blocks) × (length room ≡ length room₀) × (room ≡ joined i (blockOf k levels n label (take b (bits bytes))) ++ drop (512 * i) room₀)
+Inv-loop room₀ k levels n label bytes b blocks number₀ room number = (number ≤ blocks) × (length room ≡ length room₀) × (room ≡ joined number (blockOf k levels n label (take b (bits bytes))) ++ drop (512 * number) room₀)
 
 abbrev μ-loop : tie.MeasureT-loop
-μ-loop room₀ k levels n label bytes b blocks i₀ room i = blocks - i
+μ-loop room₀ k levels n label bytes b blocks number₀ room number = blocks - number
 
 loop-holds : tie.Need-loop-holds Inv-loop μ-loop
 loop-holds c =
@@ -43,8 +44,8 @@ part-put-block-end c =
 put-block-requires : tie.Need-put-block-requires Inv-loop μ-loop
 put-block-requires c κs = search needs
 
-add-i : tie.Need-add-i Inv-loop μ-loop
-add-i c = search needs
+add-number : tie.Need-add-number Inv-loop μ-loop
+add-number c = search needs
 
 loop-less : tie.Need-loop-less Inv-loop μ-loop
 loop-less c =
@@ -57,8 +58,8 @@ loop-again c =
     let at = c .before .before .before .before .before .loop in
     let put = c .before .before .put-block in (
       omega arith,
-      same-len-mid (512 * at .i) (512 * at .i + 512 - 512 * at .i) (at .room) (put .last .0) (put .kept .0) ∙ at .inv .1,
-      one-written (args .k) (args .levels) (args .n) (args .label .now) (args .bytes .now) (args .b) (at .i) (S .pre .1 .0) (put .last .0) (at .room) (args .room .now) (at .inv .2) (put .ensures),
+      same-len-mid (512 * at .number) (512 * at .number + 512 - 512 * at .number) (at .room) (put .last .0) (put .kept .0) ∙ at .inv .1,
+      one-written (args .k) (args .levels) (args .n) (args .label .now) (args .bytes .now) (args .b) (at .number) (S .pre .1 .0) (put .last .0) (at .room) (args .room .now) (at .inv .2) (put .ensures),
     )
 
 same-length : tie.Need-same-length Inv-loop μ-loop
@@ -69,7 +70,7 @@ returns : tie.Need-returns Inv-loop μ-loop
 returns c =
     let args = c .before .before .before .before .before .args in
     let at = c .before .loop in
-    let e : at .i ≡ args .blocks = omega arith in
+    let e : at .number ≡ args .blocks = omega arith in
     at .inv .2 ∙ ap (λ (j : ℕ). joined j (blockOf (args .k) (args .levels) (args .n) (args .label .now) (take (args .b) (bits (args .bytes .now)))) ++ drop (512 * j) (args .room .now)) e
 
 pub write-blocks-spec : {M : Type 1} → statement M
@@ -85,7 +86,7 @@ write-blocks-spec =
     part-put-block-start
     part-put-block-end
     put-block-requires
-    add-i
+    add-number
     loop-less
     loop-again
     same-length

@@ -1,5 +1,5 @@
 -- Rows of the refusal table, judged one after the other.
-use mathlib.Core.Path.{_≡_, refl, sym, ap}
+use mathlib.Core.Path.{_≡_, refl, sym, ap, _∙_}
 use mathlib.Core.Bool.{Bool, true, false, _&&_}
 use Prim.Native.Nat.{ℕ, suc, _*_, _/_, _%_, _<_}
 use native.Mathlib.Omega.{arith}
@@ -12,6 +12,10 @@ row-refused r later e = ap (λ b. unless r b later) (sym e)
 
 pub row-left : (r later : ℕ) {b : Bool} → b ≡ true → later ≡ unless r b later
 row-left r later e = ap (λ b. unless r b later) (sym e)
+
+-- rows 6 and 7, from what their conditions are
+pub rows-are : {r : ℕ} {a b c d : Bool} → r ≡ unless 6 a (unless 7 b 0) → a ≡ c → b ≡ d → r ≡ unless 6 c (unless 7 d 0)
+rows-are e f g = e ∙ (λ t. unless 6 (f t) (unless 7 (g t) 0))
 
 -- b bits and whole bytes
 pub lends-exact : (b bytes : ℕ) → b / 8 ≡ bytes → eqb (b % 8) 0 ≡ leb b (8 * bytes)
@@ -35,12 +39,9 @@ rows-stand r q true true later h = absurd (omega arith)
 rows-stand r q true false later h = refl
 rows-stand r q false b later h = refl
 
--- a row with two conditions
-pub first-and : {a : Bool} (b : Bool) → a ≡ false → (a && b) ≡ false
-first-and b e = ap (λ a. a && b) e
+-- two conditions, one after the other
+pub first-and : {a : Bool} (b : Bool) → a ≡ false → false ≡ (a && b)
+first-and b e = ap (λ a. a && b) (sym e)
 
-pub second-and : {a b : Bool} → a ≡ true → b ≡ false → (a && b) ≡ false
-second-and e f = λ t. e t && f t
-
-pub both-and : {a b : Bool} → a ≡ true → b ≡ true → (a && b) ≡ true
-both-and e f = λ t. e t && f t
+pub second-and : {a : Bool} (b : Bool) → a ≡ true → b ≡ (a && b)
+second-and b e = ap (λ a. a && b) (sym e)

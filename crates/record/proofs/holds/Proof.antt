@@ -1,0 +1,21 @@
+-- `holds`: two conditions, one after the other.
+use Rattle.record.proofs.Table.{first-and, second-and}
+use borrow.Author.Tests.{le-leb, lt-leb}
+use native.Mathlib.Omega.{arith}
+use borrow.Author.Needs.{needs}
+use Rattle.record.proofs.holds.Statement.{statement}
+use Rattle.record.proofs.holds.Tie as tie
+
+returns : tie.Need-returns
+returns c =
+    first-and _ (lt-leb 512 (c .before .args .blocks) (omega arith))
+
+mul-result : tie.Need-mul-result
+mul-result c = search needs
+
+returns-2 : tie.Need-returns-2
+returns-2 c =
+    second-and _ (le-leb 512 (c .before .args .blocks) (omega arith))
+
+pub holds-spec : {M : Type 1} → statement M
+holds-spec = tie.close (tie.spec returns mul-result returns-2)
