@@ -55,3 +55,7 @@ reportOf blocks bits L p n line =
 -- the line of a refusal
 unfoldable pub refusedOf : ℕ → Line → Line
 refusedOf n line = line puts ascii "refused: " puts figure n puts meaning n puts ascii "\n"
+
+-- the line of a record with another label, which stands in block 0
+unfoldable pub strangeOf : List ℕ → Line → Line
+strangeOf label line = line puts ascii "refused: 10" puts meaning 10 puts ascii ", block 0 says " puts label puts ascii "\n"

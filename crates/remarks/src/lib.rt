@@ -2,7 +2,7 @@
 // worth.
 ghost use mathlib.Core.Path.{_≡_};
 ghost use Rattle.words.specs.Line.{on, _puts_};
-ghost use Rattle.remarks.specs.Said.{meaning, ended, worth, reportOf, refusedOf};
+ghost use Rattle.remarks.specs.Said.{meaning, ended, worth, reportOf, refusedOf, strangeOf};
 use words::put;
 use words::put_figure;
 
@@ -93,4 +93,15 @@ pub fn refused(number: u32, line: &mut [u8]) -> usize
     let said = put_figure(b"refused: ", number as u64, line, 0);
     let meant = put_meaning(number, line, said);
     put(b"\n", line, meant)
+}
+
+// The line of a record with another label, which stands in block 0.
+pub fn refused_label(label: &[u8], line: &mut [u8]) -> usize
+    ensures { λ r. ⌜ strangeOf (now (label .entry)) (on (now (line .entry)) 0) ≡ on (now (line .exit)) r ⌝ }
+{
+    let said = put(b"refused: 10", line, 0);
+    let meant = put_meaning(10, line, said);
+    let found = put(b", block 0 says ", line, meant);
+    let told = put(label, line, found);
+    put(b"\n", line, told)
 }

@@ -63,3 +63,11 @@ pub fn write_all(fd: i32, bytes: &[u8]) -> bool {
     }
     true
 }
+
+// Writes the first `count` bytes; false if there are fewer, or a write fails.
+pub fn write_front(fd: i32, bytes: &[u8], count: usize) -> bool {
+    if bytes.len() < count {
+        return false;
+    }
+    write_all(fd, &bytes[..count])
+}

@@ -1,0 +1,3 @@
+-- Laws of the desk's programs.
+pub mod Findings
+pub mod Jobs

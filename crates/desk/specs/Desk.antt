@@ -1,0 +1,96 @@
+-- What the desk's programs do with the bytes they are given: which picture a PGM holds, a picture made a record, and bits
+-- made a picture. The jobs follow one another, and the first refusal ends it.
+use mathlib.Core.Bool.{Bool, not, _&&_}
+use mathlib.Core.List.{List, _++_}
+use Prim.Native.Nat.{ℕ, _+_, _-_, _^_}
+use lib.Dec.{leb, eqb}
+use lib.IntN.{ℤ}
+use lib.ListN.{take, drop, length}
+use Rattle.paper.specs.Lists.{pick}
+use Rattle.paper.specs.Sizes.{unless, judged}
+use Rattle.paper.specs.Jobs.{Forward, forwardJob, Coding, codingJob, Writing, writingJob, Decoding, decodingJob, Inverse, inverseJob}
+use Rattle.pgm.specs.declared.Header.{Header}
+use Rattle.square_pgm.specs.Sides.{heldSize, sideOf}
+use Rattle.desk.specs.declared.Found.{Found}
+
+-- the greys of a square that is held
+unfoldable pub areaOf : ℕ → ℕ
+areaOf k = pick (heldSize k) (4 ^ k) 0
+
+-- what is wrong with a PGM of so many bytes: 1 no header, 2 its greys do not run to 255, 3 no square that is held,
+-- 4 greys are missing; bytes behind the raster are not looked at, since more pictures may follow
+unfoldable pub troubleOf : Header → ℕ → ℕ
+troubleOf header bytes =
+    let k = sideOf (header .width) (header .height) in
+    unless 1 (header .right)
+    (unless 2 (eqb (header .most) 255)
+    (unless 3 (not (eqb k 0))
+    (unless 4 (leb (header .start + areaOf k) bytes) 0)))
+
+-- its k; 0 where something is wrong
+unfoldable pub foundOf : Header → ℕ → Found
+foundOf header bytes =
+    judged (troubleOf header bytes)
+    (λ r. record { trouble = r; k = 0 })
+    (record { trouble = 0; k = sideOf (header .width) (header .height) })
+
+-- ---- a picture made a record, and what each buffer then holds
+pub record Encoding : Type 0 where
+  pub refusal : ℕ
+  pub blocks : ℕ
+  pub numbers : List ℤ
+  pub bytes : List ℕ
+  pub room : List ℕ
+
+unfoldable pub encodingOf : ℕ → ℕ → List ℕ → List ℕ → ℕ → List ℤ → List ℕ → List ℕ → Encoding
+encodingOf k L picture label limit numbers bytes room =
+    let f = forwardJob k L picture numbers in
+    let c = codingJob k L (f .numbers) limit bytes in
+    let w = writingJob k L (c .n) label (c .bytes) (c .written) room in
+    judged (f .refusal)
+    (λ r. record { refusal = r; blocks = 0; numbers = f .numbers; bytes = bytes; room = room })
+    (judged (c .refusal)
+    (λ r. record { refusal = r; blocks = 0; numbers = f .numbers; bytes = c .bytes; room = room })
+    (record { refusal = w .refusal; blocks = w .blocks; numbers = f .numbers; bytes = c .bytes; room = w .room }))
+
+-- ---- bits made a picture
+pub record Rebuilding : Type 0 where
+  pub refusal : ℕ
+  pub unfinished : ℕ
+  pub read : ℕ
+  pub numbers : List ℤ
+  pub picture : List ℕ
+  pub room : List ℤ
+
+unfoldable pub rebuildingOf : ℕ → ℕ → ℕ → List ℕ → ℕ → List ℤ → List ℕ → List ℤ → Rebuilding
+rebuildingOf k L n bytes b numbers picture room =
+    let d = decodingJob k L n numbers bytes b in
+    let i = inverseJob k L (d .numbers) picture room in
+    judged (d .refusal)
+    (λ r. record { refusal = r; unfinished = d .unfinished; read = d .read; numbers = d .numbers; picture = picture; room = room })
+    (record { refusal = i .refusal; unfinished = d .unfinished; read = d .read; numbers = d .numbers; picture = i .picture; room = i .room })
+
+-- ---- the same, with buffers that are as long as the largest picture needs: the front of each is used
+-- the picture at a place of the input; 3 where a buffer is too short
+unfoldable pub encodingIn : ℕ → ℕ → List ℕ → ℕ → List ℕ → ℕ → List ℤ → List ℕ → List ℕ → Encoding
+encodingIn k L input start label limit numbers bytes room =
+    let area = areaOf k in
+    let e = encodingOf k L (take area (drop start input)) label limit (take area numbers) bytes room in
+    pick (leb (start + area) (length input) && leb area (length numbers))
+    (record { refusal = e .refusal; blocks = e .blocks; numbers = e .numbers ++ drop area numbers; bytes = e .bytes; room = e .room })
+    (record { refusal = 3; blocks = 0; numbers = numbers; bytes = bytes; room = room })
+
+unfoldable pub rebuildingIn : ℕ → ℕ → ℕ → List ℕ → ℕ → List ℤ → List ℕ → List ℤ → Rebuilding
+rebuildingIn k L n bytes b numbers picture room =
+    let area = areaOf k in
+    let r = rebuildingOf k L n bytes b (take area numbers) (take area picture) (take area room) in
+    pick (leb area (length numbers) && leb area (length picture) && leb area (length room))
+    (record {
+      refusal = r .refusal;
+      unfinished = r .unfinished;
+      read = r .read;
+      numbers = r .numbers ++ drop area numbers;
+      picture = r .picture ++ drop area picture;
+      room = r .room ++ drop area room;
+    })
+    (record { refusal = 3; unfinished = 0; read = 0; numbers = numbers; picture = picture; room = room })

@@ -1,0 +1,2 @@
+-- What the desk's programs do with the bytes they are given.
+pub mod Desk

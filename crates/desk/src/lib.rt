@@ -1,0 +1,200 @@
+// What the desk's programs do between reading and writing: which picture a PGM holds, a picture made a record, and bits
+// made a picture. All memory is lent.
+ghost use mathlib.Core.Path.{_≡_};
+ghost use Rattle.desk.specs.Desk.{areaOf, foundOf, encodingOf, encodingIn, rebuildingOf, rebuildingIn};
+use decoding::Settled;
+use pgm::Header;
+use record::Blocks;
+
+// What is wrong with a PGM, and its picture's k.
+pub struct Found {
+    pub trouble: u32,
+    pub k: u32,
+}
+
+// The greys of a square that the programs hold, k from 3 to 6, else 0.
+pub fn area(k: u32) -> usize
+    ensures { λ r. ⌜ r ≡ areaOf k ⌝ }
+{
+    match k {
+        3 => 64,
+        4 => 256,
+        5 => 1024,
+        6 => 4096,
+        _ => 0,
+    }
+}
+
+// The picture of a PGM of so many bytes. Trouble is 0, or 1 no header, 2 greys that do not run to 255, 3 no square with
+// a side of 8, 16, 32 or 64, 4 greys missing.
+pub fn find(header: Header, bytes: usize) -> Found
+    ensures { λ r. ⌜ r ≡ foundOf header bytes ⌝ }
+{
+    if !header.right {
+        return Found { trouble: 1, k: 0 };
+    }
+    if header.most != 255 {
+        return Found { trouble: 2, k: 0 };
+    }
+    let k = square_pgm::side_of(header.width, header.height);
+    if k == 0 {
+        return Found { trouble: 3, k: 0 };
+    }
+    if bytes < header.start {
+        return Found { trouble: 4, k: 0 };
+    }
+    if bytes - header.start < area(k) {
+        return Found { trouble: 4, k: 0 };
+    }
+    Found { trouble: 0, k }
+}
+
+// A picture made a record, at the front of the room.
+fn encoded(
+    k: u32,
+    levels: u32,
+    picture: &[u8],
+    label: &[u8],
+    limit: usize,
+    numbers: &mut [i32],
+    bytes: &mut [u8],
+    room: &mut [u8],
+) -> Blocks
+    ensures { λ r. ⌜ encodingOf k levels (now (picture .entry)) (now (label .entry)) limit (now (numbers .entry)) (now (bytes .entry)) (now (room .entry)) ≡ record { refusal = r .refusal; blocks = r .blocks; numbers = now (numbers .exit); bytes = now (bytes .exit); room = now (room .exit) } ⌝ }
+{
+    let planes = label::forward(k, levels, picture, numbers);
+    if planes.refusal != 0 {
+        return Blocks {
+            refusal: planes.refusal,
+            blocks: 0,
+        };
+    }
+    let written = label::code(k, levels, numbers, limit, bytes);
+    if written.refusal != 0 {
+        return Blocks {
+            refusal: written.refusal,
+            blocks: 0,
+        };
+    }
+    label::write(k, levels, written.n, label, bytes, written.bits, room)
+}
+
+// The picture of side 2 ^ k at place `start` of the input made a record, at the front of the room. The numbers' buffer may
+// be longer than the picture; refusal 3 where it is shorter, or the input.
+pub fn encode(
+    k: u32,
+    levels: u32,
+    input: &[u8],
+    start: usize,
+    label: &[u8],
+    limit: usize,
+    numbers: &mut [i32],
+    bytes: &mut [u8],
+    room: &mut [u8],
+) -> Blocks
+    ensures { λ r. ⌜ encodingIn k levels (now (input .entry)) start (now (label .entry)) limit (now (numbers .entry)) (now (bytes .entry)) (now (room .entry)) ≡ record { refusal = r .refusal; blocks = r .blocks; numbers = now (numbers .exit); bytes = now (bytes .exit); room = now (room .exit) } ⌝ }
+{
+    let area = area(k);
+    if input.len() < start {
+        return Blocks {
+            refusal: 3,
+            blocks: 0,
+        };
+    }
+    if input.len() - start < area {
+        return Blocks {
+            refusal: 3,
+            blocks: 0,
+        };
+    }
+    if numbers.len() < area {
+        return Blocks {
+            refusal: 3,
+            blocks: 0,
+        };
+    }
+    let end = start + area;
+    encoded(
+        k,
+        levels,
+        &input[start..end],
+        label,
+        limit,
+        &mut numbers[..area],
+        bytes,
+        room,
+    )
+}
+
+// The first b bits made a picture.
+fn rebuilt(
+    k: u32,
+    levels: u32,
+    n: u32,
+    bytes: &[u8],
+    b: usize,
+    numbers: &mut [i32],
+    picture: &mut [u8],
+    room: &mut [i32],
+) -> Settled
+    ensures { λ r. ⌜ rebuildingOf k levels n (now (bytes .entry)) b (now (numbers .entry)) (now (picture .entry)) (now (room .entry)) ≡ record { refusal = r .refusal; unfinished = r .unfinished; read = r .read; numbers = now (numbers .exit); picture = now (picture .exit); room = now (room .exit) } ⌝ }
+{
+    let settled = label::decode(k, levels, n, numbers, bytes, b);
+    if settled.refusal != 0 {
+        return settled;
+    }
+    let refusal = label::inverse(k, levels, numbers, picture, room);
+    Settled {
+        refusal,
+        unfinished: settled.unfinished,
+        read: settled.read,
+    }
+}
+
+// The first b bits made a picture of side 2 ^ k, at the front of buffers that may be longer; refusal 3 where one is
+// shorter.
+pub fn rebuild(
+    k: u32,
+    levels: u32,
+    n: u32,
+    bytes: &[u8],
+    b: usize,
+    numbers: &mut [i32],
+    picture: &mut [u8],
+    room: &mut [i32],
+) -> Settled
+    ensures { λ r. ⌜ rebuildingIn k levels n (now (bytes .entry)) b (now (numbers .entry)) (now (picture .entry)) (now (room .entry)) ≡ record { refusal = r .refusal; unfinished = r .unfinished; read = r .read; numbers = now (numbers .exit); picture = now (picture .exit); room = now (room .exit) } ⌝ }
+{
+    let area = area(k);
+    if numbers.len() < area {
+        return Settled {
+            refusal: 3,
+            unfinished: 0,
+            read: 0,
+        };
+    }
+    if picture.len() < area {
+        return Settled {
+            refusal: 3,
+            unfinished: 0,
+            read: 0,
+        };
+    }
+    if room.len() < area {
+        return Settled {
+            refusal: 3,
+            unfinished: 0,
+            read: 0,
+        };
+    }
+    rebuilt(
+        k,
+        levels,
+        n,
+        bytes,
+        b,
+        &mut numbers[..area],
+        &mut picture[..area],
+        &mut room[..area],
+    )
+}
