@@ -6,8 +6,19 @@ ghost use Prim.Native.Nat.{_+_, _*_, _<_, _≤_};
 ghost use lib.Dec.{eqb};
 ghost use lib.ListN.{length, take, drop};
 ghost use Rattle.paper.specs.Lists.{joined, over};
-ghost use Rattle.paper.specs.Block.{sameBytes, labelOf, numberOf, countOf, payloadOf, payloadStart};
+ghost use Rattle.paper.specs.Block.{sameBytes, labelOf, numberOf, countOf, payloadOf, payloadStart, payloadBytes, payloadBits};
 ghost use Rattle.paper.specs.Record.{blockAt, wholeBlocks, turnRefusal, runOf, bitsKept, payloadKept};
+
+// The bytes of a block, of its payload, and the payload's bits; where the payload starts, and where the checks stand.
+const BLOCK: usize = 512;
+
+const PAYLOAD: usize = 492;
+
+const PAYLOAD_BITS: usize = 8 * PAYLOAD;
+
+const PAYLOAD_START: usize = 16;
+
+const CHECKS: usize = 508;
 
 // Numbered in its turn, with bytes 0 to 11 like block 0 and the label expected.
 fn in_turn(block: &[u8], first: &[u8], label: &[u8], i: usize) -> bool
@@ -30,9 +41,9 @@ pub fn turn_refusal(blocks: &[u8], label: &[u8], i: usize) -> u32
     requires { ⌜ 512 * i + 512 ≤ length (now blocks) ⌝ }
     ensures { λ r. ⌜ r ≡ turnRefusal (now (blocks .entry)) (now (label .entry)) i ⌝ }
 {
-    let start = 512 * i;
-    let end = start + 512;
-    let first = &blocks[0..512];
+    let start = BLOCK * i;
+    let end = start + BLOCK;
+    let first = &blocks[0..BLOCK];
     let block = &blocks[start..end];
     let refusal = block::check(block);
     if refusal > 0 {
@@ -50,8 +61,8 @@ fn count_at(blocks: &[u8], i: usize) -> usize
     requires { ⌜ 512 * i + 512 ≤ length (now blocks) ⌝ }
     ensures { λ r. ⌜ r ≡ countOf (blockAt (now (blocks .entry)) i) ⌝ }
 {
-    let start = 512 * i;
-    let end = start + 512;
+    let start = BLOCK * i;
+    let end = start + BLOCK;
     fields::pair_at(&blocks[start..end], 14)
 }
 
@@ -64,7 +75,7 @@ pub struct Run {
 pub fn longest_run(blocks: &[u8], label: &[u8]) -> Run
     ensures { λ r. ⌜ runOf (now (blocks .entry)) (now (label .entry)) ≡ record { kept = r .kept; ended = r .ended } ⌝ }
 {
-    let whole = blocks.len() / 512;
+    let whole = blocks.len() / BLOCK;
     let mut i = 0;
     while i < whole {
         let refusal = turn_refusal(blocks, label, i);
@@ -74,7 +85,7 @@ pub fn longest_run(blocks: &[u8], label: &[u8]) -> Run
                 ended: refusal,
             };
         }
-        if count_at(blocks, i) != 3936 {
+        if count_at(blocks, i) != PAYLOAD_BITS {
             return Run {
                 kept: i + 1,
                 ended: 0,
@@ -93,21 +104,21 @@ pub fn bits_kept(blocks: &[u8], kept: usize) -> usize
     ensures { λ r. ⌜ r ≡ bitsKept (now (blocks .entry)) kept ⌝ }
 {
     let last = kept - 1;
-    3936 * last + count_at(blocks, last)
+    PAYLOAD_BITS * last + count_at(blocks, last)
 }
 
 // The first n payload bytes of block i, in their place; what lies before and behind is untouched.
 fn put_payload(room: &mut [u8], blocks: &[u8], i: usize, n: usize)
     requires { ⌜ 512 * i + 512 ≤ length (now blocks) ⌝ }
-    requires { ⌜ 492 * i + n ≤ length (now room) ⌝ }
-    requires { ⌜ n ≤ 492 ⌝ }
-    ensures { λ _. ⌜ now (room .exit) ≡ take (492 * i) (now (room .entry)) ++ (take n (payloadOf payloadStart (blockAt (now (blocks .entry)) i)) ++ drop (492 * i + n) (now (room .entry))) ⌝ }
+    requires { ⌜ payloadBytes payloadStart * i + n ≤ length (now room) ⌝ }
+    requires { ⌜ n ≤ payloadBytes payloadStart ⌝ }
+    ensures { λ _. ⌜ now (room .exit) ≡ take (payloadBytes payloadStart * i) (now (room .entry)) ++ (take n (payloadOf payloadStart (blockAt (now (blocks .entry)) i)) ++ drop (payloadBytes payloadStart * i + n) (now (room .entry))) ⌝ }
 {
-    let from = 512 * i;
-    let to = from + 512;
+    let from = BLOCK * i;
+    let to = from + BLOCK;
     let block = &blocks[from..to];
-    let payload = &block[16..508];
-    let start = 492 * i;
+    let payload = &block[PAYLOAD_START..CHECKS];
+    let start = PAYLOAD * i;
     let end = start + n;
     block::copy_in(&mut room[start..end], &payload[0..n]);
 }
@@ -115,12 +126,12 @@ fn put_payload(room: &mut [u8], blocks: &[u8], i: usize, n: usize)
 // The payload of full blocks, one behind the other.
 fn copy_full(room: &mut [u8], blocks: &[u8], full: usize)
     requires { ⌜ full ≤ wholeBlocks (now blocks) ⌝ }
-    requires { ⌜ 492 * full ≤ length (now room) ⌝ }
-    ensures { λ _. ⌜ now (room .exit) ≡ joined full (λ i. payloadOf payloadStart (blockAt (now (blocks .entry)) i)) ++ drop (492 * full) (now (room .entry)) ⌝ }
+    requires { ⌜ payloadBytes payloadStart * full ≤ length (now room) ⌝ }
+    ensures { λ _. ⌜ now (room .exit) ≡ joined full (λ i. payloadOf payloadStart (blockAt (now (blocks .entry)) i)) ++ drop (payloadBytes payloadStart * full) (now (room .entry)) ⌝ }
 {
     let mut i = 0;
     while i < full {
-        put_payload(room, blocks, i, 492);
+        put_payload(room, blocks, i, PAYLOAD);
         i += 1;
     }
 }
@@ -129,14 +140,14 @@ fn copy_full(room: &mut [u8], blocks: &[u8], full: usize)
 pub fn copy_kept(room: &mut [u8], blocks: &[u8], kept: usize, bits: usize)
     requires { ⌜ 0 < kept ⌝ }
     requires { ⌜ kept ≤ wholeBlocks (now blocks) ⌝ }
-    requires { ⌜ 492 * wholeBlocks (now blocks) ≤ length (now room) ⌝ }
+    requires { ⌜ payloadBytes payloadStart * wholeBlocks (now blocks) ≤ length (now room) ⌝ }
     requires { ⌜ bits ≡ bitsKept (now blocks) kept ⌝ }
-    requires { ⌜ bits ≤ 3936 * kept ⌝ }
+    requires { ⌜ bits ≤ payloadBits payloadStart * kept ⌝ }
     requires { ⌜ kept ≤ 65536 ⌝ }
     ensures { λ _. ⌜ now (room .exit) ≡ over (payloadKept (now (blocks .entry)) kept) (now (room .entry)) ⌝ }
 {
     let last = kept - 1;
-    let used = (bits - 3936 * last + 7) / 8;
+    let used = (bits - PAYLOAD_BITS * last + 7) / 8;
     copy_full(room, blocks, last);
     put_payload(room, blocks, last, used);
 }

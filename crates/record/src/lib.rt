@@ -5,9 +5,14 @@ ghost use mathlib.Core.List.{List};
 ghost use Prim.Native.Nat.{ℕ, _*_, _/_};
 ghost use lib.Dec.{leb};
 ghost use Rattle.paper.specs.Sizes.{sizeIn, planesIn, mostBits, unless};
-ghost use Rattle.paper.specs.Block.{isLabel};
+ghost use Rattle.paper.specs.Block.{isLabel, payloadStart, payloadBytes};
 ghost use Rattle.paper.specs.Record.{blocksFor};
 ghost use Rattle.paper.specs.Jobs.{sizesRefusal, writingJob, Read, readingJob};
+
+// The bytes of a block and of its payload.
+const BLOCK: usize = 512;
+
+const PAYLOAD: usize = 492;
 
 // b bits are not beyond so many bytes. Compared by whole bytes, since eight times the bytes may not fit.
 fn lends(bytes: usize, b: usize) -> bool
@@ -35,7 +40,7 @@ fn fits(k: u32, n: u32, bytes: usize, b: usize, room: usize) -> bool
     if b > sizes::most_bits(k, n) {
         return false;
     }
-    512 * writer::blocks_for(b) <= room
+    BLOCK * writer::blocks_for(b) <= room
 }
 
 // Rows 6 and 7, the lower number first.
@@ -113,12 +118,12 @@ pub fn write(
 
 // Row 6 of record reading, from the bytes in `blocks` and in `room`.
 fn holds(blocks: usize, room: usize) -> bool
-    ensures { λ r. ⌜ r ≡ (leb 512 blocks && leb (492 * (blocks / 512)) room) ⌝ }
+    ensures { λ r. ⌜ r ≡ (leb 512 blocks && leb (payloadBytes payloadStart * (blocks / 512)) room) ⌝ }
 {
-    if blocks < 512 {
+    if blocks < BLOCK {
         return false;
     }
-    492 * (blocks / 512) <= room
+    PAYLOAD * (blocks / BLOCK) <= room
 }
 
 #[repr(C)]

@@ -5,7 +5,15 @@ ghost use Prim.Native.Nat.{_+_, _*_, _-_, _^_, _<_, _≤_, min};
 ghost use lib.ListN.{length, take, drop};
 ghost use Rattle.paper.specs.Lists.{joined};
 ghost use Rattle.paper.specs.Bits.{bits, byteOf, packed};
+ghost use Rattle.paper.specs.Block.{payloadStart, payloadBytes, payloadBits};
 ghost use Rattle.paper.specs.Record.{blocksFor, bitsOfBlock, blockOf};
+
+// The bytes of a block, of its payload, and the payload's bits.
+const BLOCK: usize = 512;
+
+const PAYLOAD: usize = 492;
+
+const PAYLOAD_BITS: usize = 8 * PAYLOAD;
 
 // The byte at a place, of the first b bits alone: bits after the b-th count as 0.
 fn byte_at(bytes: &[u8], b: usize, at: usize) -> u8
@@ -43,24 +51,28 @@ fn fill(out: &mut [u8], bytes: &[u8], b: usize, start: usize)
 fn payload(bytes: &[u8], b: usize, i: usize) -> [u8; 492]
     requires { ⌜ b ≤ 8 * length (now bytes) ⌝ }
     requires { ⌜ i < 65536 ⌝ }
-    ensures { λ r. ⌜ r ≡ packed 492 (bitsOfBlock (take b (bits (now (bytes .entry)))) i) ⌝ }
+    ensures { λ r. ⌜ r ≡ packed (payloadBytes payloadStart) (bitsOfBlock (take b (bits (now (bytes .entry)))) i) ⌝ }
 {
     let mut out = [0u8; 492];
-    fill(&mut out, bytes, b, 492 * i);
+    fill(&mut out, bytes, b, PAYLOAD * i);
     out
 }
 
 // The bits that block i holds.
 fn count_in(b: usize, i: usize) -> usize
     requires { ⌜ i < 65536 ⌝ }
-    ensures { λ r. ⌜ r ≡ min 3936 (b - 3936 * i) ⌝ }
+    ensures { λ r. ⌜ r ≡ min (payloadBits payloadStart) (b - payloadBits payloadStart * i) ⌝ }
 {
-    let before = 3936 * i;
+    let before = PAYLOAD_BITS * i;
     if b <= before {
         return 0;
     }
     let left = b - before;
-    if left < 3936 { left } else { 3936 }
+    if left < PAYLOAD_BITS {
+        left
+    } else {
+        PAYLOAD_BITS
+    }
 }
 
 // Block i of the record, by value.
@@ -114,8 +126,8 @@ pub fn write_blocks(
 {
     let mut number = 0;
     while number < blocks {
-        let start = 512 * number;
-        let end = start + 512;
+        let start = BLOCK * number;
+        let end = start + BLOCK;
         put_block(&mut room[start..end], k, levels, n, label, bytes, b, number);
         number += 1;
     }
@@ -123,9 +135,9 @@ pub fn write_blocks(
 
 // The blocks of a record of b bits.
 pub fn blocks_for(b: usize) -> usize
-    requires { ⌜ b ≤ 3936 * 65536 ⌝ }
+    requires { ⌜ b ≤ payloadBits payloadStart * 65536 ⌝ }
     ensures { λ r. ⌜ r ≡ blocksFor b ⌝ }
 {
-    let parts = (b + 3935) / 3936;
+    let parts = (b + (PAYLOAD_BITS - 1)) / PAYLOAD_BITS;
     if parts < 1 { 1 } else { parts }
 }
