@@ -1,53 +1,36 @@
 // decode LABEL < record > picture.pgm
 //
 // Makes the picture of a record, whole or cut anywhere, side 8 to 64, if it has the label expected. One line on standard
-// error says what the picture is worth; where something is wrong, it says what, and nothing is written.
+// error says what the picture is worth; where something is wrong, it says what, and nothing is written. docs/MEMORY.md has
+// the sum of the buffers.
 use libc::STDERR_FILENO;
 use libc::STDIN_FILENO;
 use libc::STDOUT_FILENO;
 use record::Kept;
 
-fn say_refusal(number: u32) {
-    let mut line = [0u8; 320];
-    let count = remarks::refused(number, &mut line);
-    stream::write_front(STDERR_FILENO, &line, count);
-}
+// Each function puts the line that is said at its end into `line`, and answers the line's length.
 
-// The label is looked at first at the night desk, so another one is named.
-fn say_label(blocks: &[u8]) {
+// Another label is named, since the reader may have to look for that cartridge.
+fn label_line(blocks: &[u8], line: &mut [u8]) -> usize {
     if blocks.len() < 12 {
-        return;
+        return 0;
     }
-    let mut line = [0u8; 320];
-    let count = remarks::refused_label(&blocks[4..12], &mut line);
-    stream::write_front(STDERR_FILENO, &line, count);
+    remarks::refused_label(&blocks[4..12], line)
 }
 
-fn say_side(k: u32) {
+fn side_line(k: u32, line: &mut [u8]) -> usize {
     if k == 7 {
-        stream::write_all(
-            STDERR_FILENO,
+        return words::put(
             b"refused: the picture has side 128, and this program holds sides up to 64\n",
+            line,
+            0,
         );
-        return;
     }
-    stream::write_all(
-        STDERR_FILENO,
+    words::put(
         b"refused: the picture has side 256, and this program holds sides up to 64\n",
-    );
-}
-
-fn say_report(kept: Kept, unfinished: u32) {
-    let mut line = [0u8; 320];
-    let count = remarks::report(
-        kept.blocks,
-        kept.bits,
-        kept.levels,
-        unfinished,
-        kept.ended,
-        &mut line,
-    );
-    stream::write_front(STDERR_FILENO, &line, count);
+        line,
+        0,
+    )
 }
 
 // The header and the picture; false if they could not be written.
@@ -60,10 +43,9 @@ fn write_picture(k: u32, picture: &[u8]) -> bool {
     stream::write_front(STDOUT_FILENO, picture, desk::area(k))
 }
 
-fn rebuild(kept: Kept, payload: &[u8]) {
+fn rebuild(kept: Kept, payload: &[u8], picture: &mut [u8], line: &mut [u8]) -> usize {
     let mut numbers = [0i32; 4096];
     let mut working = [0i32; 4096];
-    let mut picture = [0u8; 4096];
     let settled = desk::rebuild(
         kept.k,
         kept.levels,
@@ -71,60 +53,61 @@ fn rebuild(kept: Kept, payload: &[u8]) {
         payload,
         kept.bits,
         &mut numbers,
-        &mut picture,
+        picture,
         &mut working,
     );
     if settled.refusal != 0 {
-        say_refusal(settled.refusal);
-        return;
+        return remarks::refused(settled.refusal, line);
     }
-    if write_picture(kept.k, &picture) {
-        say_report(kept, settled.unfinished);
-    } else {
-        stream::write_all(
-            STDERR_FILENO,
-            b"refused: standard output could not be written\n",
-        );
+    if !write_picture(kept.k, picture) {
+        return words::put(b"refused: standard output could not be written\n", line, 0);
     }
+    remarks::report(
+        kept.blocks,
+        kept.bits,
+        kept.levels,
+        settled.unfinished,
+        kept.ended,
+        line,
+    )
 }
 
-fn decode(blocks: &[u8], label: &[u8]) {
+// The blocks are of no use once they are read, and their memory is the picture's: every grey of it is written, or none is
+// shown.
+fn decode(room: &mut [u8], count: usize, label: &[u8], line: &mut [u8]) -> usize {
+    if room.len() < count {
+        return 0;
+    }
     let mut payload = [0u8; 13284];
-    let kept = label::read(blocks, label, &mut payload);
+    let kept = label::read(&room[..count], label, &mut payload);
     if kept.refusal == 10 {
-        say_label(blocks);
-        return;
+        return label_line(room, line);
     }
     if kept.refusal != 0 {
-        say_refusal(kept.refusal);
-        return;
+        return remarks::refused(kept.refusal, line);
     }
     if 6 < kept.k {
-        say_side(kept.k);
-        return;
+        return side_line(kept.k, line);
     }
-    rebuild(kept, &payload);
+    rebuild(kept, &payload, room, line)
 }
 
-fn main() {
+fn run(line: &mut [u8]) -> usize {
     if os::arg_count() != 2 {
-        stream::write_all(
-            STDERR_FILENO,
-            b"usage: decode LABEL < record > picture.pgm\n",
-        );
-        return;
+        return words::put(b"usage: decode LABEL < record > picture.pgm\n", line, 0);
     }
     let mut label = [0u8; 16];
     let label_count = os::arg(1, &mut label);
-    let mut blocks = [0u8; 13824];
-    let filled = stream::read_all(STDIN_FILENO, &mut blocks);
-    let count = filled.count;
+    let mut room = [0u8; 13824];
+    let filled = stream::read_all(STDIN_FILENO, &mut room);
     if filled.failed {
-        stream::write_all(
-            STDERR_FILENO,
-            b"refused: standard input could not be read\n",
-        );
-        return;
+        return words::put(b"refused: standard input could not be read\n", line, 0);
     }
-    decode(&blocks[..count], &label[..label_count]);
+    decode(&mut room, filled.count, &label[..label_count], line)
+}
+
+fn main() {
+    let mut line = [0u8; 320];
+    let count = run(&mut line);
+    stream::write_front(STDERR_FILENO, &line, count);
 }
