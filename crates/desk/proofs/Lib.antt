@@ -1,3 +1,4 @@
 -- Laws of the desk's programs.
 pub mod Findings
 pub mod Jobs
+pub mod Journey
