@@ -1,27 +1,11 @@
--- A copy over the front of a list, one byte at a time, and the parts of a block as they come into place. Assumes nothing.
-use Prim.Native.Nat.{ℕ, suc, _+_, _<_, _/_, _%_}
+-- The parts of a block as they come into place. Assumes nothing.
+use Prim.Native.Nat.{ℕ, _/_, _%_}
 use mathlib.Core.Path.{_≡_, ap, _∙_, sym}
 use mathlib.Core.List.{List, [], _∷_, _++_, append-assoc, append-nil}
-use native.Mathlib.Nat.{le-of-lt}
-use native.Mathlib.Numerals.{add-one}
 use native.Mathlib.Omega.{arith}
-use lib.ListN.{length, take, drop, getD, set, replicate, length-append}
-use lib.Seq.{drop-cons, take-suc, set-at, length-take-le, take-length, drop-length, drop-drop, sets-eq, take-at}
-use Rattle.paper.specs.Lists.{over}
+use lib.ListN.{length, take, drop, set, replicate, length-append}
+use lib.Seq.{drop-length, drop-drop, sets-eq, take-at}
 use Rattle.paper.specs.Block.{checkA, checkB, twoBytes, sealed}
-
-pub over-more : (s d : List ℕ) (i : ℕ) → i < length s → i < length d
-    → set (take i s ++ drop i d) i (getD s i 0) ≡ take (i + 1) s ++ drop (i + 1) d
-over-more s d i hs hd =
-    ap (λ (r : List ℕ). set (take i s ++ r) i (getD s i 0)) (drop-cons d i 0 hd)
-    ∙ set-at (take i s) (getD d i 0) (drop (suc i) d) (getD s i 0) i (length-take-le i s (le-of-lt hs))
-    ∙ rw (add-one, take-suc s i 0, append-assoc)
-
-pub over-end : (s d : List ℕ) (i : ℕ) → i ≡ length s → take i s ++ drop i d ≡ over s d
-over-end s d i e = rw (e, take-length)
-
-pub over-whole : (s d : List ℕ) → length s ≡ length d → over s d ≡ s
-over-whole s d e = rw (e, drop-length, append-nil)
 
 pub label-in : (ys label zs : List ℕ) (a b c d : ℕ) → ys ≡ label
     → ys ++ a ∷ b ∷ c ∷ d ∷ zs ≡ (label ++ a ∷ b ∷ c ∷ d ∷ []) ++ zs

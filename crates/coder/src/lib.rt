@@ -5,7 +5,7 @@ ghost use mathlib.Core.Bool.{true};
 ghost use Prim.Native.Nat.{_*_, _<_, _≤_};
 ghost use lib.ListN.{length};
 ghost use Rattle.paper.specs.Sizes.{numberLimit, mostPlanes, numbersIn};
-ghost use Rattle.integers.specs.Order.{Within};
+ghost use Rattle.integer_laws.specs.Order.{Within};
 ghost use Rattle.bits.specs.Bits.{Sink, wrote};
 ghost use Rattle.coder.specs.Coded.{numberBits, said, fourBits, Quad, CodedSet, Rest, CodedRest, Levels, CodedPlane};
 use scan::Seen;

@@ -37,10 +37,10 @@ fn side_line(k: u32, line: &mut [u8]) -> usize {
 fn write_picture(k: u32, picture: &[u8]) -> bool {
     let mut header = [0u8; 13];
     let count = square_pgm::write_header(k, &mut header);
-    if !stream::write_all(STDOUT_FILENO, &header[..count]) {
+    if !pipes::write_all(STDOUT_FILENO, &header[..count]) {
         return false;
     }
-    stream::write_front(STDOUT_FILENO, picture, desk::area(k))
+    pipes::write_front(STDOUT_FILENO, picture, desk::area(k))
 }
 
 fn rebuild(kept: Kept, payload: &[u8], picture: &mut [u8], line: &mut [u8]) -> usize {
@@ -99,7 +99,7 @@ fn run(line: &mut [u8]) -> usize {
     let mut label = [0u8; 16];
     let label_count = os::arg(1, &mut label);
     let mut room = [0u8; 13824];
-    let filled = stream::read_all(STDIN_FILENO, &mut room);
+    let filled = pipes::read_all(STDIN_FILENO, &mut room);
     if filled.failed {
         return words::put(b"refused: standard input could not be read\n", line, 0);
     }
@@ -109,5 +109,5 @@ fn run(line: &mut [u8]) -> usize {
 fn main() {
     let mut line = [0u8; 320];
     let count = run(&mut line);
-    stream::write_front(STDERR_FILENO, &line, count);
+    pipes::write_front(STDERR_FILENO, &line, count);
 }

@@ -14,8 +14,8 @@ use denote.Enum.Declared.{tagOf}
 use borrow.Author.Tests.{lt-ltb, le-ltb, ltb-true, le-leb, lt-leb, leb-true, leb-false}
 use Rattle.paper.specs.Lists.{pick}
 use Rattle.paper.specs.Walk.{negative, signed, reaches, isOne, Decoder, testSet, walkNumber, refined, begun}
-use Rattle.walk.specs.Cleared.{signed-self}
-use Rattle.walk.specs.Asks.{test-known, test-asks, number-known, number-asks, afterBit}
+use Rattle.walk_laws.specs.Cleared.{signed-self}
+use Rattle.walk_laws.specs.Asks.{test-known, test-asks, number-known, number-asks, afterBit}
 use Rattle.bits.specs.Bits.{tapeOf, heard, ReadBit}
 use Rattle.scan.specs.declared.Seen.{Seen}
 use Rattle.scan.specs.declared.Seen.the-variants.{Known, New, Closed}

@@ -10,9 +10,9 @@ use lib.ListN as ListN
 use Rattle.paper.specs.Sizes.{mostPlanes}
 use Rattle.paper.specs.Lists.{at}
 use Rattle.paper.specs.Walk.{Decoder, walkNumber, walkNumbers}
-use Rattle.integers.specs.Machine.{read}
-use Rattle.walk.specs.Room.{Room, number-leaves, room-at}
-use Rattle.walk.specs.Together.{decode-next}
+use Rattle.integer_laws.specs.Machine.{read}
+use Rattle.walk_laws.specs.Room.{Room, number-leaves, room-at}
+use Rattle.walk_laws.specs.Together.{decode-next}
 use Rattle.bits.specs.Bits.{tapeOf}
 use Rattle.decoder.specs.Walked.{Walked, NumberRead}
 use Rattle.decoder.proofs.Signs.{kept, within, held}

@@ -10,9 +10,9 @@ use lib.ListN.{length, take, drop, length-take, length-drop, length-append, take
 use lib.Seq.{take-at, drop-at}
 use borrow.Rule.Slice.PartMut.{putMid, postOf}
 use Rattle.paper.specs.Walk.{Decoder, walkSet, _next_}
-use Rattle.walk.specs.Asks.{behind}
-use Rattle.walk.specs.Room.{Room, room-take, room-drop}
-use Rattle.walk.specs.Together.{Decodes, decode-next}
+use Rattle.walk_laws.specs.Asks.{behind}
+use Rattle.walk_laws.specs.Room.{Room, room-take, room-drop}
+use Rattle.walk_laws.specs.Together.{Decodes, decode-next}
 use Rattle.bits.specs.Bits.{tapeOf}
 use Rattle.decoder.specs.Walked.{IsSet, Walked, SetRead}
 

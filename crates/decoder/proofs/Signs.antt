@@ -12,10 +12,10 @@ use mir.Val.{SFits, toZ, ofZ}
 use mir.Facts.{toZ-pos}
 use Rattle.paper.specs.Sizes.{mostPlanes, numberLimit}
 use Rattle.paper.specs.Walk.{negative, signed}
-use Rattle.integers.specs.Difference.{_⊖_, pos-⊖, negsuc-⊖}
-use Rattle.integers.specs.Order.{Within, ints, zarith}
-use Rattle.integers.specs.Machine.{within-fits, read}
-use Rattle.walk.specs.Cleared.{natAbs-signed}
+use Rattle.integer_laws.specs.Difference.{_⊖_, pos-⊖, negsuc-⊖}
+use Rattle.integer_laws.specs.Order.{Within, ints, zarith}
+use Rattle.integer_laws.specs.Machine.{within-fits, read}
+use Rattle.walk_laws.specs.Cleared.{natAbs-signed}
 use Rattle.scan.proofs.Sign.{sign-is}
 
 -- a machine number as the proofs have it

@@ -5,7 +5,7 @@ use Prim.Native.Nat.{ℕ, suc, _+_, _*_, _^_, _<_, _≤_}
 use lib.IntN.{ℤ}
 use lib.ListN.{length}
 use Rattle.paper.specs.Walk.{Decoder, walkNumber, walkSet}
-use Rattle.walk.specs.Together.{Decodes}
+use Rattle.walk_laws.specs.Together.{Decodes}
 use Rattle.bits.specs.Bits.{tapeOf}
 
 -- b bits that are lent, with a place left to say that one was missed

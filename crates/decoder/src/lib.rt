@@ -6,7 +6,7 @@ ghost use lib.IntN.{natAbs};
 ghost use lib.ListN.{length};
 ghost use Rattle.paper.specs.Sizes.{mostPlanes};
 ghost use Rattle.paper.specs.Walk.{negative, signed, Decoder, testSet, walkNumbers};
-ghost use Rattle.walk.specs.Room.{Room};
+ghost use Rattle.walk_laws.specs.Room.{Room};
 ghost use Rattle.decoder.specs.Walked.{Source, IsSet, Walked, NumberRead, SetRead};
 use bits::Answer;
 use scan::Seen;

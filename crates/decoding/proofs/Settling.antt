@@ -15,8 +15,8 @@ use Rattle.paper.specs.Sizes.{mostSize, mostPlanes}
 use Rattle.paper.specs.Bits.{bits}
 use Rattle.paper.specs.Walk.{Decoder, walkPlanes, depth, decodeOf, Settled}
 use Rattle.sizes.proofs.Counts.{shifted}
-use Rattle.walk.specs.Read.{readLimit, read-limit}
-use Rattle.walk.specs.Room.{Room, room-zeros}
+use Rattle.walk_laws.specs.Read.{readLimit, read-limit}
+use Rattle.walk_laws.specs.Room.{Room, room-zeros}
 use Rattle.bits.specs.Bits.{tapeOf}
 use Rattle.bits.proofs.OneBit.{bits-length}
 use Rattle.decoder.specs.Walked.{Source}

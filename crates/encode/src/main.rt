@@ -51,7 +51,7 @@ fn trouble_line(trouble: u32, header: Header, bytes: usize, line: &mut [u8]) -> 
 
 fn write_record(room: &[u8], blocks: usize, line: &mut [u8]) -> usize {
     if blocks <= 27 {
-        if stream::write_front(STDOUT_FILENO, room, 512 * blocks) {
+        if pipes::write_front(STDOUT_FILENO, room, 512 * blocks) {
             return 0;
         }
     }
@@ -88,7 +88,7 @@ fn read_and_encode(levels: u32, limit: usize, line: &mut [u8]) -> usize {
     let mut label = [0u8; 16];
     let label_count = os::arg(1, &mut label);
     let mut input = [0u8; 12288];
-    let filled = stream::read_all(STDIN_FILENO, &mut input);
+    let filled = pipes::read_all(STDIN_FILENO, &mut input);
     let count = filled.count;
     if filled.failed {
         return words::put(b"refused: standard input could not be read\n", line, 0);
@@ -137,5 +137,5 @@ fn run(line: &mut [u8]) -> usize {
 fn main() {
     let mut line = [0u8; 320];
     let count = run(&mut line);
-    stream::write_front(STDERR_FILENO, &line, count);
+    pipes::write_front(STDERR_FILENO, &line, count);
 }

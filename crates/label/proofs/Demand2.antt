@@ -16,10 +16,10 @@ use Rattle.paper.specs.Record.{blocksFor}
 use Rattle.paper.specs.Jobs.{Decoding, decodingRefusal, settledJob, decodingJob, Writing, writingJob, writtenOf, Read, Inverse}
 use Rattle.sizes.proofs.Ranges.{levels-less}
 use Rattle.sizes.proofs.Refusals.{sizes-passed, done-is}
-use Rattle.square.specs.Picture.{lossless}
-use Rattle.walk.specs.Decoded.{all-bits}
-use Rattle.records.specs.BothJobs.{written}
-use Rattle.records.specs.ReadBack.{bitsIn, every-bit, readBack}
+use Rattle.square_laws.specs.Picture.{lossless}
+use Rattle.walk_laws.specs.Decoded.{all-bits}
+use Rattle.record_laws.specs.BothJobs.{written}
+use Rattle.record_laws.specs.ReadBack.{bitsIn, every-bit, readBack}
 use Rattle.label.specs.Journey.{intoRecord, Seen, outOfRecord}
 use Rattle.label.proofs.Way.{Numbers, written-all, accepted}
 use Rattle.label.proofs.Journeys.{Given, truth, n, code, truth-given, into-is, out-is, settled}

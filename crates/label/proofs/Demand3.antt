@@ -14,13 +14,13 @@ use Rattle.paper.specs.Walk.{negative, decodeOf, Settled}
 use Rattle.paper.specs.Record.{blocksFor}
 use Rattle.paper.specs.Jobs.{Decoding, Inverse, Read, writtenOf}
 use Rattle.sizes.proofs.Ranges.{levels-less}
-use Rattle.integers.specs.Difference.{pos-⊖, negsuc-⊖}
+use Rattle.integer_laws.specs.Difference.{pos-⊖, negsuc-⊖}
 use Rattle.lift.specs.Off.{Over, Off}
 use Rattle.lift.proofs.Near.{overs}
-use Rattle.square.specs.Picture.{lossless, greys-near, picture-near}
-use Rattle.walk.specs.Decoded.{Truthful, decodedFirst, truth, better}
-use Rattle.walk.specs.Read.{places}
-use Rattle.records.specs.ReadBack.{bitsIn}
+use Rattle.square_laws.specs.Picture.{lossless, greys-near, picture-near}
+use Rattle.walk_laws.specs.Decoded.{Truthful, decodedFirst, truth, better}
+use Rattle.walk_laws.specs.Read.{places}
+use Rattle.record_laws.specs.ReadBack.{bitsIn}
 use Rattle.label.specs.Journey.{intoRecord, Seen, outOfRecord}
 use Rattle.label.proofs.Journeys as way
 use Rattle.label.proofs.Journeys.{Given, truth-given, seenAs, out-is}

@@ -19,10 +19,10 @@ use Rattle.paper.specs.Jobs.{isSquare, Forward, forwardRefusal, forwardJob, Cod
 use Rattle.sizes.proofs.Ranges.{levels-few, levels-less, planes-few}
 use Rattle.sizes.proofs.Refusals.{sizes-passed, done-is}
 use Rattle.sizes.proofs.Numbers.{count-in}
-use Rattle.square.specs.Numbers.{Bytes, numbers-in, length-numbers}
-use Rattle.records.specs.ReadBack.{bitsIn, readBack}
-use Rattle.walk.specs.Read.{places}
-use Rattle.walk.specs.Room.{decoded-in}
+use Rattle.square_laws.specs.Numbers.{Bytes, numbers-in, length-numbers}
+use Rattle.record_laws.specs.ReadBack.{bitsIn, readBack}
+use Rattle.walk_laws.specs.Read.{places}
+use Rattle.walk_laws.specs.Room.{decoded-in}
 use Rattle.label.specs.Journey.{intoRecord, Seen, outOfRecord}
 use Rattle.label.proofs.Way.{Numbers, coded, read, decoded}
 

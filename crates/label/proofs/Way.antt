@@ -22,9 +22,9 @@ use Rattle.sizes.proofs.Refusals.{sizes-passed, done-is}
 use Rattle.sizes.proofs.Numbers.{count-in}
 use Rattle.bits.proofs.OneBit.{bits-length}
 use Rattle.bits.proofs.Packing.{bits-take, bits-laid, packed-length}
-use Rattle.records.specs.ReadBack.{bitsIn, bits-read, readBack}
-use Rattle.records.specs.BothJobs.{read-written}
-use Rattle.walk.specs.Bound.{bound}
+use Rattle.record_laws.specs.ReadBack.{bitsIn, bits-read, readBack}
+use Rattle.record_laws.specs.BothJobs.{read-written}
+use Rattle.walk_laws.specs.Bound.{bound}
 
 length-laid : (l : List Bool) (s : List ℕ) → length (laid l s) ≡ length s
 unfolding laid

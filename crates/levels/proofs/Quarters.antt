@@ -12,10 +12,10 @@ use lib.IntN.{ℤ}
 use Rattle.paper.specs.Square.{along, levelForward, levelBack, onFirst, levelsForward, levelsBack}
 use Rattle.lift.proofs.Steps.{grow}
 use Rattle.line.specs.Each.{Each, lineLimit}
-use Rattle.square.specs.Undone.{length-level, length-level-back, length-levels-back}
-use Rattle.square.specs.Sizes.{take-each, pass-each, level-each, le-mul-pow}
-use Rattle.square.specs.Near.{grown}
-use Rattle.square.specs.Range.{Sized, first-sized, sized-each, columns-range, levels-range, grown-least}
+use Rattle.square_laws.specs.Undone.{length-level, length-level-back, length-levels-back}
+use Rattle.square_laws.specs.Sizes.{take-each, pass-each, level-each, le-mul-pow}
+use Rattle.square_laws.specs.Near.{grown}
+use Rattle.square_laws.specs.Range.{Sized, first-sized, sized-each, columns-range, levels-range, grown-least}
 use Rattle.pass.specs.Way.{way}
 use Rattle.levels.specs.Level.{levelWay, Fitting, forth}
 

@@ -6,7 +6,7 @@ ghost use lib.ListN.{length};
 ghost use Rattle.paper.specs.Sizes.{mostSize};
 ghost use Rattle.paper.specs.Square.{along, levelsForward, levelsBack};
 ghost use Rattle.line.specs.Each.{Each, lineLimit};
-ghost use Rattle.square.specs.Near.{grown};
+ghost use Rattle.square_laws.specs.Near.{grown};
 ghost use Rattle.pass.specs.Way.{way};
 ghost use Rattle.levels.specs.Level.{levelWay, Fitting, forth};
 

@@ -2,8 +2,8 @@
 use lib.IntN.{ℤ, pos, _+ℤ_, _*ℤ_}
 use lib.Signed.{_≤ℤ_, _<ℤ_}
 use Rattle.paper.specs.Line.{floorHalf, floorQuarter}
-use Rattle.integers.specs.Difference.{split}
-use Rattle.integers.specs.Order.{ints, zarith}
+use Rattle.integer_laws.specs.Difference.{split}
+use Rattle.integer_laws.specs.Order.{ints, zarith}
 
 pub floor-half : (z : ℤ) → ((pos 2 *ℤ floorHalf z) ≤ℤ z) × (z <ℤ (pos 2 *ℤ floorHalf z +ℤ pos 2))
 floor-half z = rw (split z) (simp ints (omega zarith))

@@ -4,8 +4,8 @@ use mathlib.Core.Path.{_≡_}
 use native.Mathlib.Omega.{arith}
 use lib.IntN.{ℤ, pos, _+ℤ_, _-ℤ_}
 use Rattle.paper.specs.Line.{oddOf, evenOf}
-use Rattle.integers.specs.Difference.{_⊖_, abs-⊖, split}
-use Rattle.integers.specs.Order.{Within, ints, zarith, le-⊖, ⊖-le}
+use Rattle.integer_laws.specs.Difference.{_⊖_, abs-⊖, split}
+use Rattle.integer_laws.specs.Order.{Within, ints, zarith, le-⊖, ⊖-le}
 use Rattle.lift.specs.Off.{Over, Off}
 
 -- ---- for `omega`

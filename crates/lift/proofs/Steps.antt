@@ -6,8 +6,8 @@ use lib.IntN.{ℤ, pos, _+ℤ_, _-ℤ_, +ℤ-negℤ-cancel, -ℤ-+ℤ-cancel}
 use mir.Syntax.{w32}
 use mir.Val.{SFits}
 use Rattle.paper.specs.Line.{floorHalf, floorQuarter, highOf, lowOf, oddOf, evenOf}
-use Rattle.integers.specs.Difference.{split}
-use Rattle.integers.specs.Order.{Within, ints, zarith}
+use Rattle.integer_laws.specs.Difference.{split}
+use Rattle.integer_laws.specs.Order.{Within, ints, zarith}
 use Rattle.lift.specs.Limit.{stepLimit}
 
 -- ---- a step fits

@@ -2,7 +2,7 @@
 // A shift to the right rounds towards minus infinity, as the rule asks; a division would round towards zero.
 ghost use mathlib.Core.Path.{_≡_};
 ghost use Rattle.paper.specs.Line.{highOf, lowOf, oddOf, evenOf};
-ghost use Rattle.integers.specs.Order.{Within};
+ghost use Rattle.integer_laws.specs.Order.{Within};
 ghost use Rattle.lift.specs.Limit.{stepLimit};
 
 // The high number of an odd sample between two even ones.

@@ -1,5 +1,5 @@
 -- The laws of lines.
-pub mod Made
+pub mod Sized
 pub mod Pairs
 pub mod Lines
 pub mod Near

@@ -9,10 +9,11 @@ use lib.Seq.{ext-getD, getD-append-add}
 use lib.IntN.{ℤ, pos}
 use Rattle.paper.specs.Lists.{made, at}
 use Rattle.paper.specs.Line.{highAt, lowAt, lineForward, evenAt, oddAt, woven, lineBack}
-use Rattle.integers.specs.Order.{Within}
+use Rattle.integer_laws.specs.Order.{Within}
 use Rattle.lift.proofs.Steps.{odd-high, even-low, high-within, low-within, even-within, odd-within, grow}
 use Rattle.line.specs.Each.{Each}
-use Rattle.line.proofs.Made.{length-made, getD-made, each-below}
+use Rattle.list_laws.specs.Made.{length-made, getD-made}
+use Rattle.line.proofs.Sized.{each-below}
 use Rattle.line.proofs.Pairs.{by-halves, by-turns, Paired}
 
 -- ---- samples in turns

@@ -3,7 +3,7 @@ use Prim.Native.Nat.{ℕ, _^_}
 use mathlib.Core.List.{List}
 use lib.IntN.{ℤ}
 use Rattle.paper.specs.Lists.{at}
-use Rattle.integers.specs.Order.{Within}
+use Rattle.integer_laws.specs.Order.{Within}
 
 -- each number of a list is at most B in size; past the end stands 0
 abbrev pub Each : ℕ → List ℤ → Type 0

@@ -14,12 +14,12 @@ use lib.IntN.{ℤ, pos}
 use Rattle.paper.specs.Sizes.{mostSize}
 use Rattle.paper.specs.Lists.{at}
 use Rattle.paper.specs.Square.{placeOf, lineOf, spotOf, line}
-use Rattle.integers.specs.Order.{Within}
+use Rattle.integer_laws.specs.Order.{Within}
 use Rattle.places.proofs.Steps.{side-small}
 use Rattle.lift.proofs.Steps.{grow}
 use Rattle.line.specs.Each.{Each}
 use Rattle.line.proofs.Lines.{length-forward, length-back, forward-each, back-each}
-use Rattle.square.specs.Grid.{place-below, line-of-place, spot-of-place, length-line, at-line, halved}
+use Rattle.square_laws.specs.Grid.{place-below, line-of-place, spot-of-place, length-line, at-line, halved}
 use Rattle.pass.specs.Way.{way, Put}
 
 -- a raster place of a square is small

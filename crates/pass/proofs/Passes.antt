@@ -11,7 +11,7 @@ use lib.Seq.{ext-getD}
 use lib.IntN.{ℤ, pos}
 use Rattle.paper.specs.Lists.{at}
 use Rattle.paper.specs.Square.{placeOf, lineOf, line, along}
-use Rattle.square.specs.Grid.{line-of-place, length-line, at-line, length-along, at-along, same-square}
+use Rattle.square_laws.specs.Grid.{line-of-place, length-line, at-line, length-along, at-along, same-square}
 use Rattle.pass.specs.Way.{Put}
 
 -- the first n lines are changed by f, and the others are as they were

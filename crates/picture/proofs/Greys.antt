@@ -10,10 +10,10 @@ use mir.Syntax.{w8, w32}
 use mir.Val.{Fits, SFits, toZ}
 use mir.Facts.{toZ-pos}
 use Rattle.paper.specs.Square.{grey}
-use Rattle.integers.specs.Difference.{split, apart, sub-⊖}
-use Rattle.integers.specs.Order.{Within, ints, zarith}
+use Rattle.integer_laws.specs.Difference.{split, apart, sub-⊖}
+use Rattle.integer_laws.specs.Order.{Within, ints, zarith}
 use Rattle.line.specs.Each.{lineLimit}
-use Rattle.square.specs.Picture.{grey-⊖}
+use Rattle.square_laws.specs.Picture.{grey-⊖}
 
 pub lower-fits : {g : ℕ} → Fits w8 g → (toZ w32 g ≡ pos g) × SFits w32 (pos g -ℤ pos 128)
 lower-fits {g} f = (toZ-pos w32 (omega arith), rw (sub-⊖ g 128) (omega zarith))

@@ -10,8 +10,8 @@ use lib.IntN.{ℤ}
 use lib.ListN.{length}
 use Rattle.paper.specs.Sizes.{mostPlanes}
 use Rattle.paper.specs.Walk.{Decoder, walkPlane, walkPlanes}
-use Rattle.walk.specs.Room.{Room, plane-leaves}
-use Rattle.walk.specs.Together.{Decodes}
+use Rattle.walk_laws.specs.Room.{Room, plane-leaves}
+use Rattle.walk_laws.specs.Together.{Decodes}
 use Rattle.bits.specs.Bits.{tapeOf}
 use Rattle.planes.specs.Levels.{IsSquare, PlaneRead, PlanesRead}
 

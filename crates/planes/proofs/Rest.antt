@@ -8,8 +8,8 @@ use native.Mathlib.Omega.{arith}
 use lib.IntN.{ℤ}
 use lib.ListN.{length, take, drop}
 use Rattle.paper.specs.Walk.{Decoder, walkSet, walkRest, testSet, _next_}
-use Rattle.walk.specs.Asks.{opened, behind}
-use Rattle.walk.specs.Together.{Decodes}
+use Rattle.walk_laws.specs.Asks.{opened, behind}
+use Rattle.walk_laws.specs.Together.{Decodes}
 use Rattle.bits.specs.Bits.{tapeOf}
 use Rattle.decoder.specs.Walked.{Walked, SetRead}
 use Rattle.decoder.proofs.Parts.{after4, part1, part2, part3, part4, is4, len4, three-read}

@@ -8,8 +8,8 @@ use lib.IntN.{ℤ}
 use lib.ListN.{length, take, drop, length-take, length-drop, length-append}
 use borrow.Rule.Slice.PartMut.{putMid}
 use Rattle.paper.specs.Walk.{Decoder, walkSet, walkRest, walkPlane, _next_}
-use Rattle.walk.specs.Room.{Room, room-take, room-drop}
-use Rattle.walk.specs.Together.{decode-next}
+use Rattle.walk_laws.specs.Room.{Room, room-take, room-drop}
+use Rattle.walk_laws.specs.Together.{decode-next}
 use Rattle.bits.specs.Bits.{tapeOf}
 use Rattle.decoder.specs.Walked.{IsSet, SetRead}
 use Rattle.decoder.proofs.Parts.{put-at, mid-at, after1, part1}

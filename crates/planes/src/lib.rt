@@ -2,7 +2,7 @@
 // bit is missing. `at` is the place of the next of the first b bits, and past b once a bit was missed.
 ghost use Prim.Native.Nat.{ℕ, suc, _<_, _≤_};
 ghost use Rattle.paper.specs.Sizes.{mostPlanes};
-ghost use Rattle.walk.specs.Room.{Room};
+ghost use Rattle.walk_laws.specs.Room.{Room};
 ghost use Rattle.decoder.specs.Walked.{Source};
 ghost use Rattle.planes.specs.Levels.{IsRest, IsSquare, RestRead, PlaneRead, PlanesRead};
 

@@ -8,8 +8,10 @@ use lib.Seq.{take-all, take-append-add, length-take-le}
 use Rattle.paper.specs.Lists.{joined, over}
 use Rattle.paper.specs.Block.{payloadOf, payloadStart}
 use Rattle.paper.specs.Record.{wholeBlocks, blockAt, bitsKept, payloadKept}
-use Rattle.block.proofs.Copies.{over-whole}
-use Rattle.records.specs.Parts.{Even, length-joined, laid-behind, one-joined, behind-part}
+use Rattle.list_laws.specs.Over.{over-whole}
+use Rattle.list_laws.specs.Over.{laid-behind}
+use Rattle.list_laws.specs.Joined.{Even, length-joined, one-joined}
+use Rattle.list_laws.specs.Parts.{behind-part}
 use Rattle.reader.proofs.Turn.{part-is}
 
 pub payload-length : (s : List ℕ) (i : ℕ) → 512 * i + 512 ≤ length s → length (payloadOf payloadStart (blockAt s i)) ≡ 492

@@ -15,7 +15,7 @@ use Rattle.paper.specs.Jobs.{readingRefusal, readRun, readingJob}
 use Rattle.sizes.proofs.Ranges.{both-first, both-second}
 use Rattle.sizes.proofs.Refusals.{row-passed, refused-is, done-is}
 use Rattle.bits.proofs.Packing.{Bytes}
-use Rattle.records.specs.Turn.{few-kept, whole-kept, most-kept, first-kept, first-refused}
+use Rattle.record_laws.specs.Turn.{few-kept, whole-kept, most-kept, first-kept, first-refused}
 use Rattle.record.proofs.Table.{two-rows, rows-stand}
 
 -- rows 6 and 7, as they are judged from the lengths

@@ -13,8 +13,8 @@ use Rattle.paper.specs.Block.{isLabel}
 use Rattle.paper.specs.Record.{blocksFor, blockOf, recordOf}
 use Rattle.paper.specs.Jobs.{sizesRefusal, writingRefusal, writingJob}
 use Rattle.sizes.proofs.Refusals.{refused-is}
-use Rattle.records.specs.ReadBack.{length-record}
-use Rattle.records.specs.BothJobs.{Accepted, most-bits, length-given, writable, written}
+use Rattle.record_laws.specs.ReadBack.{length-record}
+use Rattle.record_laws.specs.BothJobs.{Accepted, most-bits, length-given, writable, written}
 
 module _ (k L n : ℕ) (label bytes : List ℕ) (b : ℕ) (room : List ℕ) where
   -- the rows, as they are judged from the lengths alone

@@ -10,7 +10,7 @@ use lib.ListN.{take, drop}
 use borrow.Author.Tests.{leb-true}
 use Rattle.paper.specs.Sizes.{numberLimit, numbersIn}
 use Rattle.paper.specs.Lists.{at}
-use Rattle.integers.specs.Order.{Within}
+use Rattle.integer_laws.specs.Order.{Within}
 
 both : (a b : Bool) → (a && b) ≡ true → (a ≡ true) × (b ≡ true)
 both true b e = (refl, e)

@@ -8,8 +8,8 @@ use mir.Val.{toZ, ofZ}
 use borrow.Author.Tests.{le-ltb}
 use Rattle.paper.specs.Sizes.{numberLimit}
 use Rattle.paper.specs.Walk.{negative}
-use Rattle.integers.specs.Order.{Within}
-use Rattle.integers.specs.Machine.{read}
+use Rattle.integer_laws.specs.Order.{Within}
+use Rattle.integer_laws.specs.Machine.{read}
 
 -- the machine's test for below 0 is the sign
 pub sign-is : (x : ℤ) → Within numberLimit x → ltZ (toZ w32 (ofZ w32 x)) (pos 0) ≡ negative x

@@ -15,8 +15,8 @@ use lib.Dec.{T}
 use mir.Syntax.{w32}
 use mir.Val.{Fits, SFits}
 use borrow.Author.Tests.{leb-true, le-leb, lt-leb, ltb-true, ltb-false}
-use Rattle.integers.specs.Difference.{split, apart}
-use Rattle.integers.specs.Order.{Within, ints, zarith}
+use Rattle.integer_laws.specs.Difference.{split, apart}
+use Rattle.integer_laws.specs.Order.{Within, ints, zarith}
 use Rattle.paper.specs.Sizes.{planesIn, numbersIn, numberLimit}
 use Rattle.paper.specs.Lists.{at}
 use Rattle.paper.specs.Walk.{largest, bitsNeeded, planeCount}

@@ -4,7 +4,7 @@ ghost use mathlib.Core.Bool.{true};
 ghost use Prim.Native.Nat.{ℕ, _+_, _*_, _/_, _^_, _≤_, max};
 ghost use lib.Dec.{leb};
 ghost use lib.IntN.{natAbs};
-ghost use Rattle.integers.specs.Order.{Within};
+ghost use Rattle.integer_laws.specs.Order.{Within};
 ghost use Rattle.paper.specs.Sizes.{sizeIn, levelsIn, planesIn, numbersIn, numberLimit, mostBits};
 ghost use Rattle.paper.specs.Walk.{largest, bitsNeeded, planeCount};
 ghost use Rattle.paper.specs.Jobs.{sizesRefusal};

@@ -12,9 +12,9 @@ use Rattle.paper.specs.Square.{lowered}
 use Rattle.sizes.proofs.Ranges.{levels-few}
 use Rattle.lift.proofs.Steps.{grow}
 use Rattle.line.specs.Each.{Each, lineLimit}
-use Rattle.square.specs.Near.{grown}
-use Rattle.square.specs.Range.{grown-most}
-use Rattle.square.specs.Numbers.{Bytes, in-each, lowered-each}
+use Rattle.square_laws.specs.Near.{grown}
+use Rattle.square_laws.specs.Range.{grown-most}
+use Rattle.square_laws.specs.Numbers.{Bytes, in-each, lowered-each}
 use Rattle.levels.specs.Level.{Fitting, forth}
 
 pub picture-fits : (k L : ℕ) (picture : List ℕ) → levelsIn k L ≡ true → Bytes picture → Fitting forth L (lowered k picture)

@@ -10,8 +10,9 @@ use Rattle.paper.specs.Bits.{bits, packed}
 use Rattle.paper.specs.Block.{edition, header, sealed}
 use Rattle.paper.specs.Record.{bitsOfBlock, blockOf}
 use Rattle.bits.proofs.OneBit.{bits-length}
-use Rattle.records.specs.Parts.{behind-part, one-joined}
-use Rattle.records.specs.Written.{length-of-block, length-block}
+use Rattle.list_laws.specs.Joined.{one-joined}
+use Rattle.list_laws.specs.Parts.{behind-part}
+use Rattle.record_laws.specs.Written.{length-of-block, length-block}
 
 module _ (k L n : ℕ) (label bytes : List ℕ) (b : ℕ) where
   pub block-is : (i count : ℕ) (part r : List ℕ) → b ≤ 8 * length bytes → count ≡ min 3936 (b - 3936 * i) → part ≡ packed 492 (bitsOfBlock (take b (bits bytes)) i)

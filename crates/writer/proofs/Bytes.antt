@@ -11,7 +11,7 @@ use Rattle.paper.specs.Bits.{bits, byteOf, packed}
 use Rattle.paper.specs.Record.{bitsOfBlock}
 use Rattle.bits.specs.Bits.{kept, withBit}
 use Rattle.bits.proofs.Packing.{Bytes, packed-length, packed-before, packed-seam, packed-after}
-use Rattle.records.specs.Packing.{packed-at, packed-more, packed-take}
+use Rattle.record_laws.specs.Packing.{packed-at, packed-more, packed-take}
 
 module _ (s : List ℕ) (b at : ℕ) (w : Bytes s) (h : b ≤ 8 * length s) where
   byte-of : getD (packed (at + 1) (take b (bits s))) at 0 ≡ byteOf 8 (drop (8 * at) (take b (bits s)))

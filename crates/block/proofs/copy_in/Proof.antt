@@ -4,7 +4,7 @@ use mathlib.Core.Path.{_≡_, _∙_, ap}
 use mathlib.Core.List.{List, _++_}
 use native.Mathlib.Omega.{arith}
 use lib.ListN.{length, take, drop, getD, set, length-set}
-use Rattle.block.proofs.Copies.{over-more, over-end}
+use Rattle.list_laws.specs.Over.{over-more, over-end}
 use borrow.Author.Needs.{needs}
 use Rattle.block.proofs.copy_in.Statement.{statement}
 use Rattle.block.proofs.copy_in.Tie as tie

@@ -5,7 +5,8 @@ use mathlib.Core.List.{List, _∷_}
 use native.Mathlib.Omega.{arith}
 use lib.ListN.{replicate}
 use Rattle.paper.specs.Block.{edition, header}
-use Rattle.block.proofs.Copies.{label-in, over-whole}
+use Rattle.list_laws.specs.Over.{over-whole}
+use Rattle.block.proofs.Copies.{label-in}
 use borrow.Author.Needs.{needs}
 use Rattle.block.proofs.headed.Statement.{statement}
 use Rattle.block.proofs.headed.Tie as tie

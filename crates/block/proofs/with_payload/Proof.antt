@@ -2,7 +2,8 @@
 use mathlib.Core.Path.{_∙_}
 use native.Mathlib.Omega.{arith}
 use lib.ListN.{take, drop}
-use Rattle.block.proofs.Copies.{payload-in, over-whole}
+use Rattle.list_laws.specs.Over.{over-whole}
+use Rattle.block.proofs.Copies.{payload-in}
 use borrow.Author.Needs.{needs}
 use Rattle.block.proofs.with_payload.Statement.{statement}
 use Rattle.block.proofs.with_payload.Tie as tie

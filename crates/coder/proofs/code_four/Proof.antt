@@ -2,7 +2,7 @@
 use native.Mathlib.Omega.{arith}
 use borrow.Author.Needs.{needs}
 use Rattle.scan.proofs.Numbers.{number-in}
-use Rattle.integers.specs.Machine.{read, pass}
+use Rattle.integer_laws.specs.Machine.{read, pass}
 use Rattle.coder.proofs.Numbered.{four-numbers}
 use Rattle.coder.proofs.code_four.Tie as tie
 use Rattle.coder.proofs.code_four.Statement.{statement}

@@ -6,7 +6,7 @@ use lib.IntN.{natAbs}
 use borrow.Author.Needs.{needs}
 use Rattle.scan.proofs.Sign.{sign-is}
 use Rattle.scan.proofs.Reached.{power-lt}
-use Rattle.integers.specs.Machine.{read}
+use Rattle.integer_laws.specs.Machine.{read}
 use Rattle.coder.proofs.Numbered.{number-known, number-small, number-new}
 use Rattle.coder.proofs.code_number.Tie as tie
 use Rattle.coder.proofs.code_number.Statement.{statement}

@@ -1,6 +1,6 @@
 -- `read_test` meets its contract.
 use Prim.Native.Nat.{suc}
-use Rattle.walk.specs.Room.{room-in}
+use Rattle.walk_laws.specs.Room.{room-in}
 use Rattle.decoder.proofs.Bits.{test-open, test-bit}
 use borrow.Author.Needs.{needs}
 use Rattle.decoder.proofs.read_test.Statement.{statement}

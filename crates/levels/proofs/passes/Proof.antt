@@ -1,7 +1,7 @@
 -- `levels::passes` meets its contract.
 use mathlib.Core.Path.{ap, _∙_}
 use lib.ListN.{length}
-use Rattle.square.specs.Grid.{length-along}
+use Rattle.square_laws.specs.Grid.{length-along}
 use Rattle.levels.proofs.Quarters.{level-is}
 use native.Mathlib.Omega.{arith}
 use borrow.Author.Needs.{needs}

@@ -7,7 +7,7 @@ use lib.ListN.{length, length-set}
 use mir.Syntax.{w32}
 use mir.Val.{ofZ}
 use mir.Facts.{toZ-ofZ}
-use Rattle.integers.specs.Machine.{read, pass}
+use Rattle.integer_laws.specs.Machine.{read, pass}
 use Rattle.paper.specs.Line.{evenAt, oddAt}
 use Rattle.line.proofs.Lines.{back-is, even-at-within}
 use Rattle.line.proofs.Pairs.{Paired, paired-none, paired-more, free-turns}

@@ -2,7 +2,7 @@
 use mathlib.Core.Path.{_∙_}
 use Prim.Native.Nat.{_+_}
 use mir.Facts.{toZ-ofZ}
-use Rattle.integers.specs.Machine.{read, pass}
+use Rattle.integer_laws.specs.Machine.{read, pass}
 use Rattle.paper.specs.Line.{evenAt}
 use native.Mathlib.Omega.{arith}
 use borrow.Author.Needs.{needs}

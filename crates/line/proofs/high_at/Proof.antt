@@ -2,7 +2,7 @@
 use mathlib.Core.Path.{_≡_, _∙_}
 use Prim.Native.Nat.{_+_, _*_, _-_, min}
 use mir.Facts.{toZ-ofZ}
-use Rattle.integers.specs.Machine.{read, pass}
+use Rattle.integer_laws.specs.Machine.{read, pass}
 use Rattle.paper.specs.Line.{highAt}
 use lib.ListN.{length}
 use Rattle.line.proofs.Lines.{mirrored}

@@ -4,12 +4,12 @@ use Prim.Native.Nat.{_≤_, _-_, _^_}
 use native.Mathlib.Omega.{arith}
 use lib.ListN.{length, length-set}
 use lib.IntN.{pos}
-use Rattle.integers.specs.Machine.{read}
+use Rattle.integer_laws.specs.Machine.{read}
 use Rattle.paper.specs.Lists.{at}
 use Rattle.paper.specs.Square.{placeOf, line}
 use Rattle.places.proofs.Steps.{area-small}
-use Rattle.line.proofs.Made.{Filled, filled-none, filled-more, filled-all}
-use Rattle.square.specs.Grid.{place-below}
+use Rattle.list_laws.specs.Made.{Filled, filled-none, filled-more, filled-all}
+use Rattle.square_laws.specs.Grid.{place-below}
 use Rattle.pass.proofs.Lines.{spot-each}
 use borrow.Author.Needs.{needs}
 use Rattle.pass.proofs.gather.Statement.{statement}

@@ -2,9 +2,9 @@
 use mathlib.Core.Path.{_≡_}
 use Prim.Native.Nat.{_≤_, _-_, _^_}
 use native.Mathlib.Omega.{arith}
-use Rattle.integers.specs.Machine.{read}
+use Rattle.integer_laws.specs.Machine.{read}
 use Rattle.places.proofs.Steps.{area-small}
-use Rattle.square.specs.Grid.{place-below}
+use Rattle.square_laws.specs.Grid.{place-below}
 use Rattle.pass.specs.Way.{Put}
 use Rattle.pass.proofs.Lines.{put-none, put-more}
 use borrow.Author.Needs.{needs}

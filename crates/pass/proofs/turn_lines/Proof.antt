@@ -3,7 +3,7 @@ use mathlib.Core.Path.{_≡_, _∙_}
 use Prim.Native.Nat.{_≤_, _<_, _-_, _^_}
 use native.Mathlib.Omega.{arith}
 use lib.ListN.{length}
-use Rattle.square.specs.Sizes.{line-each}
+use Rattle.square_laws.specs.Sizes.{line-each}
 use Rattle.pass.specs.Way.{way}
 use Rattle.pass.proofs.Passes.{Passed, passed-none, passed-line, passed-more, passed-all}
 use borrow.Author.Needs.{needs}

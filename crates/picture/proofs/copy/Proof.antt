@@ -5,9 +5,9 @@ use native.Mathlib.Omega.{arith}
 use lib.ListN.{length, length-set}
 use lib.Seq.{ext-getD}
 use lib.IntN.{pos}
-use Rattle.integers.specs.Machine.{read}
+use Rattle.integer_laws.specs.Machine.{read}
 use Rattle.paper.specs.Lists.{at}
-use Rattle.line.proofs.Made.{Filled, filled-none, filled-more}
+use Rattle.list_laws.specs.Made.{Filled, filled-none, filled-more}
 use Rattle.picture.proofs.copy.Statement.{statement}
 use Rattle.picture.proofs.copy.Tie as tie
 

@@ -8,7 +8,7 @@ use mir.Facts.{toZ-ofZ}
 use Rattle.paper.specs.Places.{rasterOf}
 use Rattle.paper.specs.Square.{lowered}
 use Rattle.places.proofs.Round.{raster-below}
-use Rattle.line.proofs.Made.{Filled, filled-none, filled-more, filled-all}
+use Rattle.list_laws.specs.Made.{Filled, filled-none, filled-more, filled-all}
 use borrow.Author.Needs.{needs}
 use Rattle.picture.proofs.lower.Statement.{statement}
 use Rattle.picture.proofs.lower.Tie as tie

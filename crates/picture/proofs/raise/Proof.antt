@@ -6,10 +6,10 @@ use lib.ListN.{length, length-set}
 use lib.Seq.{getD-set-other}
 use lib.IntN.{pos, _+ℤ_}
 use mir.Facts.{toZ-ofZ}
-use Rattle.integers.specs.Machine.{read}
+use Rattle.integer_laws.specs.Machine.{read}
 use Rattle.paper.specs.Lists.{at}
 use Rattle.paper.specs.Square.{raised}
-use Rattle.line.proofs.Made.{Filled, filled-none, filled-more, filled-all}
+use Rattle.list_laws.specs.Made.{Filled, filled-none, filled-more, filled-all}
 use Rattle.picture.proofs.Greys.{raise-fits}
 use Rattle.picture.proofs.raise.Statement.{statement}
 use Rattle.picture.proofs.raise.Tie as tie

@@ -3,13 +3,13 @@ use mathlib.Core.Path.{_≡_, refl, _∙_}
 use Prim.Native.Nat.{_≤_, _-_, _^_}
 use native.Mathlib.Omega.{arith}
 use lib.ListN.{length, length-set}
-use Rattle.integers.specs.Machine.{read}
+use Rattle.integer_laws.specs.Machine.{read}
 use Rattle.paper.specs.Lists.{at}
 use Rattle.paper.specs.Places.{zOf}
 use Rattle.paper.specs.Square.{grey, pictured}
 use Rattle.places.proofs.Steps.{area-small}
 use Rattle.places.proofs.Round.{z-below}
-use Rattle.line.proofs.Made.{Filled, filled-none, filled-more, filled-all}
+use Rattle.list_laws.specs.Made.{Filled, filled-none, filled-more, filled-all}
 use borrow.Author.Needs.{needs}
 use Rattle.picture.proofs.set_picture.Statement.{statement}
 use Rattle.picture.proofs.set_picture.Tie as tie

@@ -1,7 +1,7 @@
 -- `bits_kept`: full blocks and the last; two bytes are below 65,536, so the sum fits.
 use Prim.Native.Nat.{_-_}
 use Rattle.reader.proofs.Turn.{bits-last}
-use Rattle.records.specs.Turn.{pair-small}
+use Rattle.record_laws.specs.Turn.{pair-small}
 use native.Mathlib.Omega.{arith}
 use Rattle.reader.proofs.bits_kept.Statement.{statement}
 use Rattle.reader.proofs.bits_kept.Tie as tie

@@ -1,6 +1,6 @@
 -- `copy_full`. The invariant: the payload of the first i blocks stands one behind the other, and what lies behind is untouched.
 use Rattle.reader.proofs.Payload.{payload-more}
-use Rattle.records.specs.Parts.{none-joined}
+use Rattle.list_laws.specs.Joined.{none-joined}
 use Rattle.paper.specs.Record.{blockAt}
 use Rattle.paper.specs.Block.{payloadOf, payloadStart}
 use Rattle.paper.specs.Lists.{joined}

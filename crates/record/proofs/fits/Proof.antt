@@ -1,6 +1,6 @@
 -- `fits`: three conditions, one after the other; b is small enough to count its blocks once it is within the bound.
 use Rattle.paper.specs.Sizes.{mostBits}
-use Rattle.records.specs.BothJobs.{most-bits}
+use Rattle.record_laws.specs.BothJobs.{most-bits}
 use Rattle.reader.proofs.Turn.{first-fails, second-fails, third-decides}
 use borrow.Author.Tests.{le-leb, lt-leb, not-true, not-false}
 use lib.Dec.{leb}

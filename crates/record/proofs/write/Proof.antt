@@ -1,6 +1,6 @@
 -- `write` is the writing job: refused by its rows, or done by the blocks at the front of the room.
 use Rattle.record.proofs.Writing.{write-rows, write-refused, write-done, few-blocks}
-use Rattle.records.specs.BothJobs.{Accepted, accepted}
+use Rattle.record_laws.specs.BothJobs.{Accepted, accepted}
 use Rattle.block.proofs.Blocks.{label-length}
 use Rattle.sizes.proofs.Ranges.{size-high, levels-few, planes-few}
 use Rattle.paper.specs.Jobs.{writingRefusal}

@@ -8,7 +8,7 @@ use lib.IntN.{natAbs}
 use lib.ListN.{length}
 use borrow.Author.Needs.{needs}
 use Rattle.paper.specs.Lists.{at}
-use Rattle.integers.specs.Machine.{read, pass}
+use Rattle.integer_laws.specs.Machine.{read, pass}
 use Rattle.scan.proofs.Numbers.{number-in}
 use Rattle.scan.proofs.Reached.{power-lt, Passed, none-passed, pass-yes, pass-no, all-passed, found, seen-is}
 use Rattle.scan.proofs.scan.Tie as tie

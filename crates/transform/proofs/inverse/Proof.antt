@@ -3,7 +3,7 @@ use mathlib.Core.Path.{ap, _∙_}
 use native.Mathlib.Omega.{arith}
 use lib.ListN.{length}
 use Rattle.sizes.proofs.Ranges.{size-high, levels-few, levels-less}
-use Rattle.square.specs.Numbers.{length-greys, greys-each}
+use Rattle.square_laws.specs.Numbers.{length-greys, greys-each}
 use Rattle.paper.specs.Jobs.{inverseJob}
 use Rattle.transform.proofs.Refusals.{job-refused, inverse-accepted, picture-accepted, inverse-done}
 use borrow.Author.Needs.{needs}

@@ -4,8 +4,8 @@ use native.Mathlib.Omega.{arith}
 use lib.ListN.{length}
 use Rattle.paper.specs.Square.{levelsBack, raised, greysOf}
 use Rattle.sizes.proofs.Ranges.{size-high, levels-few, levels-less}
-use Rattle.square.specs.Undone.{length-levels-back}
-use Rattle.square.specs.Numbers.{backs-each}
+use Rattle.square_laws.specs.Undone.{length-levels-back}
+use Rattle.square_laws.specs.Numbers.{backs-each}
 use Rattle.transform.proofs.Fits.{numbers-fit, numbers-small}
 use Rattle.transform.proofs.to_greys.Statement.{statement}
 use Rattle.transform.proofs.to_greys.Tie as tie

@@ -4,7 +4,7 @@ use native.Mathlib.Omega.{arith}
 use lib.ListN.{length}
 use Rattle.paper.specs.Square.{levelsForward, numbersOf}
 use Rattle.sizes.proofs.Ranges.{size-high, levels-few, levels-less}
-use Rattle.square.specs.Numbers.{length-lowered, numbers-in}
+use Rattle.square_laws.specs.Numbers.{length-lowered, numbers-in}
 use Rattle.transform.proofs.Fits.{picture-fits}
 use Rattle.transform.proofs.to_numbers.Statement.{statement}
 use Rattle.transform.proofs.to_numbers.Tie as tie

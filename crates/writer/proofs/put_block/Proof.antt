@@ -1,5 +1,5 @@
 -- `put_block` covers its place with the block.
-use Rattle.block.proofs.Copies.{over-whole}
+use Rattle.list_laws.specs.Over.{over-whole}
 use native.Mathlib.Omega.{arith}
 use mathlib.Core.Path.{_∙_}
 use Rattle.writer.proofs.put_block.Statement.{statement}

@@ -1,6 +1,6 @@
 -- `write_blocks`. The invariant: the first blocks stand one behind the other, and what lies behind them is untouched.
 use Rattle.writer.proofs.Blocks.{one-written}
-use Rattle.records.specs.Parts.{none-joined}
+use Rattle.list_laws.specs.Joined.{none-joined}
 use Rattle.paper.specs.Record.{blockOf}
 use Rattle.paper.specs.Bits.{bits}
 use Rattle.paper.specs.Lists.{joined}

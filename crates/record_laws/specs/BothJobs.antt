@@ -1,0 +1,90 @@
+-- The writing job and the reading job together: what one wrote, the other gives back.
+use mathlib.Core.Path.{_≡_, ap, _∙_}
+use mathlib.Core.Bool.{true, _&&_}
+use mathlib.Core.List.{List}
+use Prim.Native.Nat.{ℕ, _*_, _-_, _/_, _^_, _≤_, min}
+use native.Mathlib.Nat.{mul-le-mul}
+use native.Mathlib.Omega.{arith}
+use lib.Dec.{leb}
+use lib.ListN.{length, take}
+use lib.Seq.{length-take-le, take-append-le}
+use borrow.Author.Tests.{leb-true}
+use Rattle.sizes.proofs.Ranges.{both-first, both-second, area-most, planes-few}
+use Rattle.sizes.proofs.Refusals.{row-passed, rows-left, size-accepted, levels-accepted, sizes-left, done-is}
+use Rattle.bits.proofs.OneBit.{bits-length}
+use Rattle.paper.specs.Sizes.{sizeIn, levelsIn, planesIn, mostBits}
+use Rattle.paper.specs.Lists.{over}
+use Rattle.paper.specs.Bits.{bits}
+use Rattle.paper.specs.Block.{isLabel}
+use Rattle.paper.specs.Record.{blocksFor, recordOf}
+use Rattle.paper.specs.Jobs.{writingRefusal, writingJob, readingJob}
+use Rattle.record_laws.specs.Written.{Writable}
+use Rattle.record_laws.specs.ReadBack.{readBack, length-record, read-cut}
+
+-- the most bits of a coding are fewer than numbered blocks hold
+pub most-bits : (k n : ℕ) → sizeIn k ≡ true → planesIn n ≡ true → mostBits k n ≤ 3936 * 65536
+unfolding mostBits
+most-bits k n size planes =
+    let area : 4 ^ k ≤ 65536 = area-most k size in
+    let product : n * (4 * 4 ^ k - 1) ≤ 18 * (4 * 65536 - 1) = mul-le-mul {m₂ = 4 * 65536 - 1} (planes-few n planes) (omega arith) in
+    omega arith
+
+-- what an accepted call of the writing job is given
+pub record Accepted (k L n : ℕ) (label bytes : List ℕ) (b : ℕ) (room : List ℕ) : Type 0 where
+  pub size : sizeIn k ≡ true
+  pub levels : levelsIn k L ≡ true
+  pub planes : planesIn n ≡ true
+  pub lent : b ≤ 8 * length bytes
+  pub bound : b ≤ mostBits k n
+  pub fits : 512 * blocksFor b ≤ length room
+  pub labelled : isLabel label ≡ true
+
+module _ (k L n : ℕ) (label bytes : List ℕ) (b : ℕ) (room : List ℕ) (passed : writingRefusal k L n label bytes b room ≡ 0) where
+  pub accepted : Accepted k L n label bytes b room
+  unfolding writingRefusal
+  accepted =
+      let bytes-hold = leb b (8 * length bytes) in
+      let walk-has = leb b (mostBits k n) in
+      let room-holds = leb (512 * blocksFor b) (length room) in
+      let five = sizes-left k L _ passed in
+      let six = rows-left 4 (planesIn n) _ five in
+      let seven = rows-left 5 (bytes-hold && walk-has && room-holds) _ six in
+      let all = row-passed 5 (bytes-hold && walk-has && room-holds) _ six in
+      let both = both-first (bytes-hold && walk-has) room-holds all in
+      record {
+        size = size-accepted k L _ passed;
+        levels = levels-accepted k L _ passed;
+        planes = row-passed 4 (planesIn n) _ five;
+        lent = leb-true _ _ (both-first bytes-hold walk-has both);
+        bound = leb-true _ _ (both-second bytes-hold walk-has both);
+        fits = leb-true _ _ (both-second (bytes-hold && walk-has) room-holds all);
+        labelled = row-passed 6 (isLabel label) 0 seven;
+      }
+
+  pub length-given : length (take b (bits bytes)) ≡ b
+  length-given = length-take-le b (bits bytes) (omega (arith, accepted .lent, bits-length bytes))
+
+  pub writable : Writable k L n label (take b (bits bytes))
+  writable = record {
+    size = accepted .size;
+    levels = accepted .levels;
+    planes = accepted .planes;
+    labelled = accepted .labelled;
+    few = omega (arith, length-given, accepted .bound, most-bits k n (accepted .size) (accepted .planes));
+  }
+
+  -- the record stands at the front of the room
+  pub written : writingJob k L n label bytes b room ≡ record { refusal = 0; blocks = blocksFor b; room = over (recordOf k L n label (take b (bits bytes))) room }
+  unfolding writingJob
+  written = done-is _ _ _ passed
+
+  -- any first part of it with a whole block, read with its label into enough room, gives back what was written, as much as its whole blocks hold
+  pub read-written : (m : ℕ) (lent : List ℕ) → 512 ≤ m → m ≤ 512 * blocksFor b → 492 * (m / 512) ≤ length lent
+      → readingJob (take m ((writingJob k L n label bytes b room) .room)) label lent ≡ readBack k L n (take b (bits bytes)) lent (m / 512)
+  read-written m lent h g r =
+      let l = take b (bits bytes) in
+      let whole : length (recordOf k L n label l) ≡ 512 * blocksFor b = length-record k L n label l writable ∙ ap (λ c. 512 * blocksFor c) length-given in
+      let front : take m (over (recordOf k L n label l) room) ≡ take m (recordOf k L n label l) = take-append-le m (recordOf k L n label l) _ (omega arith) in
+      let blocks : min (m / 512) (blocksFor (length l)) ≡ m / 512 = omega (arith, ap blocksFor length-given) in
+      ap (λ w. readingJob (take m (w .room)) label lent) written ∙ ap (λ s. readingJob s label lent) front
+      ∙ read-cut k L n label l writable m lent h (omega arith) ∙ ap (readBack k L n l lent) blocks

@@ -1,0 +1,7 @@
+-- From lists in equal parts to what the reading job gives of a written record.
+pub mod Kept
+pub mod Turn
+pub mod Packing
+pub mod Written
+pub mod ReadBack
+pub mod BothJobs

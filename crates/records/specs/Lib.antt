@@ -1,8 +1,0 @@
--- From lists in equal parts to what the reading job gives of a written record.
-pub mod Parts
-pub mod Kept
-pub mod Turn
-pub mod Packing
-pub mod Written
-pub mod ReadBack
-pub mod BothJobs

@@ -1,0 +1,79 @@
+-- A picture's wavelet numbers are within the limit, and wavelet numbers within the limit give greys of 32 bits.
+use mathlib.Core.Path.{_≡_, refl}
+use mathlib.Core.Bool.{true}
+use mathlib.Core.List.{List, [], _∷_}
+use Prim.Native.Nat.{ℕ, zero, suc, _*_, _^_, _<_, _≤_}
+use native.Mathlib.Omega.{arith}
+use native.Mathlib.Nat.{pow-le-pow-right}
+use lib.Dec.{leb, lit<}
+use lib.ListN.{length, getD}
+use lib.IntN.{ℤ, pos, natAbs, _+ℤ_, _-ℤ_}
+use borrow.Author.Tests.{leb-true, le-leb}
+use Rattle.paper.specs.Sizes.{mostLevels, numberLimit, numbersIn}
+use Rattle.paper.specs.Places.{rasterOf}
+use Rattle.paper.specs.Square.{levelsBack, lowered, raised, numbersOf, greysOf}
+use Rattle.integer_laws.specs.Difference.{split, sub-⊖}
+use Rattle.integer_laws.specs.Order.{Within, ints, zarith}
+use Rattle.sizes.proofs.Ranges.{both-first, both-second}
+use Rattle.lift.proofs.Steps.{grow, zero-within}
+use Rattle.line.specs.Each.{Each}
+use Rattle.list_laws.specs.Made.{length-made}
+use Rattle.line.proofs.Sized.{each-made}
+use Rattle.square_laws.specs.Undone.{length-levels}
+use Rattle.square_laws.specs.Sizes.{levels-each}
+use Rattle.square_laws.specs.Range.{levels-range, grown-most}
+
+-- ---- no number beyond the limit
+pub in-each : (xs : List ℤ) → numbersIn xs ≡ true → Each numberLimit xs
+unfolding numbersIn
+in-each [] e i = zero-within numberLimit
+in-each (x ∷ xs) e zero = record { size = leb-true (natAbs x) numberLimit (both-first (leb (natAbs x) numberLimit) (numbersIn xs) e) }
+in-each (x ∷ xs) e (suc i) = in-each xs (both-second (leb (natAbs x) numberLimit) (numbersIn xs) e) i
+
+pub each-in : (xs : List ℤ) → Each numberLimit xs → numbersIn xs ≡ true
+unfolding numbersIn
+each-in [] E = refl
+each-in (x ∷ xs) E = rw (le-leb (natAbs x) numberLimit (E 0 .size)) (each-in xs (λ i. E (suc i)))
+
+-- ---- a picture is bytes
+abbrev pub Bytes : List ℕ → Type 0
+Bytes picture = (place : ℕ) → getD picture place 0 < 256
+
+lowered-within : (g : ℕ) → g < 256 → Within 128 (pos g -ℤ pos 128)
+lowered-within g h = rw (sub-⊖ g 128) (omega zarith)
+
+pub length-lowered : (k : ℕ) (picture : List ℕ) → length (lowered k picture) ≡ 4 ^ k
+unfolding lowered
+length-lowered k picture = length-made (4 ^ k) _
+
+pub lowered-each : (k : ℕ) (picture : List ℕ) → Bytes picture → Each 128 (lowered k picture)
+unfolding lowered
+lowered-each k picture B = each-made (4 ^ k) _ (λ z h. lowered-within _ (B (rasterOf k z)))
+
+-- five levels stay within 131,072
+pub numbers-each : (L k : ℕ) (picture : List ℕ) → L ≤ k → Bytes picture → Each (128 * 4 ^ L) (numbersOf k L picture)
+unfolding numbersOf
+numbers-each L k picture h B = levels-each 128 L k (lowered k picture) h (length-lowered k picture) (lowered-each k picture B)
+
+pub numbers-in : (L k : ℕ) (picture : List ℕ) → L ≤ mostLevels → L ≤ k → Bytes picture → numbersIn (numbersOf k L picture) ≡ true
+numbers-in L k picture l h B = each-in _ (λ z. grow (numbers-each L k picture h B z) (omega (arith, pow-le-pow-right {n = 4} (lit< tt) {i = L} {j = mostLevels} l)))
+
+pub length-numbers : (L k : ℕ) (picture : List ℕ) → length (numbersOf k L picture) ≡ 4 ^ k
+unfolding numbersOf
+length-numbers L k picture = length-levels L k _ (length-lowered k picture)
+
+-- ---- and back
+pub length-greys : (k L : ℕ) (numbers : List ℤ) → length (greysOf k L numbers) ≡ 4 ^ k
+unfolding greysOf raised
+length-greys k L numbers = length-made (4 ^ k) _
+
+-- (7 * 5 + 1) times the limit is below 2 ^ 24
+pub backs-each : (L k : ℕ) (numbers : List ℤ) → L ≤ mostLevels → L ≤ k → length numbers ≡ 4 ^ k → numbersIn numbers ≡ true → Each (2 ^ 28) (levelsBack L k numbers)
+backs-each L k numbers l h e N z = grow (levels-range numberLimit L k numbers h e (in-each numbers N) z) (omega (arith, grown-most numberLimit L mostLevels l))
+
+raised-within : {x : ℤ} → Within (2 ^ 28) x → Within (2 ^ 29) (x +ℤ pos 128)
+raised-within {x} = rw (split x) (simp ints (omega zarith))
+
+pub greys-each : (L k : ℕ) (numbers : List ℤ) → L ≤ mostLevels → L ≤ k → length numbers ≡ 4 ^ k → numbersIn numbers ≡ true → Each (2 ^ 29) (greysOf k L numbers)
+unfolding greysOf raised
+greys-each L k numbers l h e N = each-made (4 ^ k) _ (λ z b. raised-within (backs-each L k numbers l h e N z))

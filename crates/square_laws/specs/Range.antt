@@ -1,0 +1,93 @@
+-- How large the numbers of a square become on the way back. A size is a difference from 0, so this is the error law again:
+-- the upper left quarter may be larger than the rest, which no level has touched yet.
+use mathlib.Core.Path.{_≡_, _∙_}
+use mathlib.Core.Bool.{Bool, true, false}
+use mathlib.Core.List.{List, []}
+use Prim.Native.Nat.{ℕ, zero, suc, _+_, _*_, _-_, _^_, _<_, _≤_}
+use native.Mathlib.Omega.{arith}
+use native.Mathlib.Decide.{decLt}
+use native.Mathlib.Nat.{pow-suc, not-suc-le-zero, le-of-suc-le-suc, mul-le-mul-right}
+use lib.ListN.{length, take}
+use lib.Seq.{length-take-le}
+use lib.IntN.{ℤ}
+use Rattle.paper.specs.Lists.{at}
+use Rattle.paper.specs.Line.{lineBack}
+use Rattle.paper.specs.Square.{along, levelBack, onFirst, levelsBack}
+use Rattle.integer_laws.specs.Order.{Within}
+use Rattle.lift.proofs.Steps.{grow, zero-within}
+use Rattle.lift.proofs.Near.{off-zero, zero-off}
+use Rattle.line.specs.Each.{Each}
+use Rattle.line.proofs.Sized.{each-below}
+use Rattle.line.proofs.Lines.{back-each}
+use Rattle.line.proofs.Near.{Near}
+use Rattle.square_laws.specs.Grid.{length-along, first-low, first-rest}
+use Rattle.square_laws.specs.Undone.{length-level-back, length-levels-back}
+use Rattle.square_laws.specs.Sizes.{take-within, take-each, along-each}
+use Rattle.square_laws.specs.Near.{columns-near, level-near, grown, grown-is}
+
+-- the first n numbers are within a, the rest within e
+pub record Sized (n a e : ℕ) (xs : List ℤ) : Type 0 where
+  pub low : (z : ℕ) → z < n → Within a (at xs z)
+  pub rest : (z : ℕ) → n ≤ z → Within e (at xs z)
+
+pub sized-all : {B : ℕ} (n : ℕ) (xs : List ℤ) → Each B xs → Sized n B B xs
+sized-all n xs E = record { low = λ z h. E z; rest = λ z h. E z }
+
+-- both together are within the larger
+pub sized-each : {n a e : ℕ} {xs : List ℤ} → Sized n a e xs → e ≤ a → Each a xs
+sized-each {n} {a} {e} {xs} S l z = go (decLt z n)
+  where
+    go : Dec (z < n) → Within a (at xs z)
+    go (yes h) = S .low z h
+    go (no h) = grow (S .rest z (omega arith)) l
+
+pub take-sized : {n a e : ℕ} (m : ℕ) (xs : List ℤ) → Sized n a e xs → Sized n a e (take m xs)
+take-sized m xs S = record { low = λ z h. take-within m xs z (S .low z h); rest = λ z h. take-within m xs z (S .rest z h) }
+
+pub first-sized : {a e : ℕ} (n : ℕ) (f : List ℤ → List ℤ) (xs : List ℤ) → length (f (take n xs)) ≡ n → Each a (f (take n xs)) → ((z : ℕ) → n ≤ z → Within e (at xs z)) → Sized n a e (onFirst n f xs)
+first-sized n f xs e F R = record { low = λ z h. rw (first-low n f xs z e h) (F z); rest = λ z h. rw (first-rest n f xs z e h) (R z h) }
+
+-- ---- a level
+-- zeros stay zeros
+zeros : (j : ℕ) (down : Bool) (ys : List ℤ) → Each 0 ys → Each 0 (along lineBack (suc j) down ys)
+zeros j down ys = along-each {A = 0} {B = 0} lineBack (suc j) down ys (λ vs e. back-each {M = 0} vs (2 ^ j) (e ∙ omega (arith, pow-suc 2 j)))
+
+columns-zero : (j : ℕ) → Each 0 (along lineBack (suc j) true [])
+columns-zero j = zeros j true [] (λ z. zero-within 0)
+
+level-zero : (j : ℕ) → Each 0 (levelBack (suc j) [])
+unfolding levelBack
+level-zero j = zeros j false _ (columns-zero j)
+
+module _ (j a e : ℕ) (xs : List ℤ) (S : Sized (4 ^ j) a e xs) where
+  near-zero : Near (4 ^ j) (4 ^ suc j) a e xs []
+  near-zero = record { low = λ z h. off-zero (at xs z) (S .low z h); rest = λ z g h. off-zero (at xs z) (S .rest z g) }
+
+  -- after the columns
+  pub columns-range : Each (a + 3 * e) (along lineBack (suc j) true xs)
+  columns-range = each-below (along lineBack (suc j) true xs)
+      (λ z h. zero-off _ _ (columns-zero j z) (columns-near j a e xs [] near-zero z (omega (arith, length-along lineBack (suc j) true xs))))
+
+  -- and after the rows
+  pub level-range : Each (a + 7 * e) (levelBack (suc j) xs)
+  level-range = each-below (levelBack (suc j) xs)
+      (λ z h. zero-off _ _ (level-zero j z) (level-near j a e xs [] near-zero z (omega (arith, length-level-back (suc j) xs))))
+
+-- ---- levels
+pub levels-range : (E L k : ℕ) (ys : List ℤ) → L ≤ k → length ys ≡ 4 ^ k → Each E ys → Each (grown E L) (levelsBack L k ys)
+unfolding levelsBack grown
+levels-range E zero k ys h p N = N
+levels-range E (suc L) zero ys h p N = absurd (not-suc-le-zero h)
+levels-range E (suc L) (suc k) ys h p N =
+    let r : suc k - 1 ≡ k = omega arith in
+    let short : length (take (4 ^ k) ys) ≡ 4 ^ k = length-take-le (4 ^ k) ys (omega (arith, pow-suc 4 k)) in
+    rw r (level-range k (grown E L) E (onFirst (4 ^ k) (levelsBack L k) ys)
+    (first-sized (4 ^ k) (levelsBack L k) ys (length-levels-back L k _ short) (levels-range E L k (take (4 ^ k) ys) (le-of-suc-le-suc h) short (take-each (4 ^ k) ys N)) (λ z b. N z)))
+
+pub grown-least : (E L : ℕ) → E ≤ grown E L
+unfolding grown
+grown-least E zero = omega arith
+grown-least E (suc L) = omega (arith, grown-least E L)
+
+pub grown-most : (E L m : ℕ) → L ≤ m → grown E L ≤ (7 * m + 1) * E
+grown-most E L m h = rw grown-is (mul-le-mul-right E (omega arith))

@@ -1,0 +1,212 @@
+-- What the coding of numbers decodes to: all of it, and any first part of it.
+use mathlib.Core.Path.{_≡_, refl, sym, ap, _∙_}
+use mathlib.Core.Bool.{Bool, true, false}
+use mathlib.Core.List.{List, [], _∷_, _++_, map, append-nil}
+use Prim.Native.Nat.{ℕ, zero, suc, _+_, _-_, _/_, _^_, _≤_, _<_}
+use native.Mathlib.Nat.{two-pow-succ}
+use native.Mathlib.Omega.{arith}
+use lib.Pow.{pow-mono}
+use lib.Dec.{leb, ltb}
+use borrow.Author.Tests.{leb-false, ltb-true, ltb-false}
+use lib.IntN.{ℤ, pos, negℤ, natAbs, _-ℤ_}
+use lib.ListN.{length, take, drop, getD, replicate, length-take, length-drop, length-append, take-append-drop}
+use lib.Seq.{take-all, take-add, drop-cons}
+use Rattle.paper.specs.Sizes.{numbersIn, mostPlanes}
+use Rattle.paper.specs.Lists.{at}
+use Rattle.paper.specs.Walk.{negative, signed, largest, bitsNeeded, planeCount, Decoder, Tape, walkPlanes, depth, codeOf, decodeOf, Settled}
+use Rattle.sizes.proofs.Numbers.{largest-in}
+use Rattle.integer_laws.specs.Difference.{_⊖_, split, pos-⊖}
+use Rattle.integer_laws.specs.Order.{ints, zarith}
+use Rattle.walk_laws.specs.Cleared.{high, cleared, natAbs-cleared, high-le, lt-high, high-mono, negative-signed, signed-zero, signed-self, cleared-none, cleared-small}
+use Rattle.walk_laws.specs.Asks.{Closes, plane-closes}
+use Rattle.walk_laws.specs.Together.{tape}
+use Rattle.walk_laws.specs.Planes.{unsettled, unsettled-most, settled-at, planesCode, Stopped, Further, run, run-whole, run-part}
+
+-- ---- one number
+-- z, from which p planes are unfinished, against the true number x
+pub record Truthful (p : ℕ) (x z : ℤ) : Type 0 where
+  pub notAbove : natAbs z ≤ natAbs x
+  pub notShort : natAbs x - natAbs z ≤ 2 ^ p - 1
+  pub rightSign : (z ≡ pos 0 → ⊥) → negative z ≡ negative x
+
+cleared-truthful : (q p : ℕ) (x : ℤ) → q ≤ p → Truthful p x (cleared q x)
+unfolding cleared
+cleared-truthful q p x h = record {
+  notAbove = omega (arith, natAbs-cleared q x, high-le q (natAbs x));
+  notShort = omega (arith, natAbs-cleared q x, lt-high q (natAbs x), high-le q (natAbs x), pow-mono h);
+  rightSign = go (high q (natAbs x)) refl;
+}
+  where
+    go : (m : ℕ) → high q (natAbs x) ≡ m → (signed (negative x) (high q (natAbs x)) ≡ pos 0 → ⊥) → negative (signed (negative x) (high q (natAbs x))) ≡ negative x
+    go zero e k = absurd (k (ap (signed (negative x)) e ∙ signed-zero (negative x)))
+    go (suc m) e k = negative-signed (negative x) (high q (natAbs x)) (omega arith)
+
+-- how far a number with cleared bits is from the truth
+turned-gap : (x y : ℤ) → natAbs (negℤ x -ℤ negℤ y) ≡ natAbs (x -ℤ y)
+turned-gap x y = rw (split x, split y) (simp ints (omega zarith))
+
+upward-gap : (x y : ℤ) (a b : ℕ) → x ≡ a ⊖ 0 → y ≡ b ⊖ 0 → b ≤ a → natAbs (x -ℤ y) ≡ a - b
+upward-gap x y a b e f h = rw (e, f) (simp ints (omega arith))
+
+gap : (s : Bool) (a b : ℕ) → b ≤ a → natAbs (signed s a -ℤ signed s b) ≡ a - b
+gap false a b h = upward-gap (pos a) (pos b) a b (pos-⊖ a) (pos-⊖ b) h
+gap true a b h = turned-gap (pos a) (pos b) ∙ upward-gap (pos a) (pos b) a b (pos-⊖ a) (pos-⊖ b) h
+
+cleared-gap : (q : ℕ) (x : ℤ) → natAbs (x -ℤ cleared q x) ≡ natAbs x - high q (natAbs x)
+unfolding cleared
+cleared-gap q x = ap (λ z. natAbs (z -ℤ signed (negative x) (high q (natAbs x)))) (sym (signed-self x)) ∙ gap (negative x) (natAbs x) (high q (natAbs x)) (high-le q (natAbs x))
+
+no-gap : (x : ℤ) → natAbs (x -ℤ x) ≡ 0
+no-gap x = rw (split x) (simp ints (omega arith))
+
+-- ---- the plane count fits
+fits-bits : (most m : ℕ) → m < 2 ^ most → m < 2 ^ bitsNeeded most m
+unfolding bitsNeeded
+fits-bits zero m h = h
+fits-bits (suc most) m h = go (leb 1 m) refl (λ j. fits-bits most (m / 2) j)
+  where
+    go : (b : Bool) → leb 1 m ≡ b → (m / 2 < 2 ^ most → m / 2 < 2 ^ bitsNeeded most (m / 2)) → m < 2 ^ (elim b as (λ _. ℕ) [ true ↦ suc (bitsNeeded most (m / 2)) | false ↦ 0 ])
+    go true e ih = omega (arith, ih (omega (arith, two-pow-succ most)), two-pow-succ (bitsNeeded most (m / 2)))
+    go false e ih = omega (arith, leb-false 1 m e)
+
+-- every bit of every number is below plane n, n the plane count
+pub count-fits : (xs : List ℤ) → numbersIn xs ≡ true → largest xs < 2 ^ planeCount xs
+unfolding planeCount
+count-fits xs e = fits-bits mostPlanes (largest xs) (omega (arith, largest-in xs e))
+
+all-cleared : (n : ℕ) (xs : List ℤ) → largest xs < 2 ^ n → map (cleared n) xs ≡ replicate (length xs) (pos 0)
+unfolding largest
+all-cleared n [] h = refl
+all-cleared n (x ∷ xs) h = λ i. cleared-small n x (omega arith) i ∷ all-cleared n xs (omega arith) i
+
+none-cleared : (xs : List ℤ) → map (cleared 0) xs ≡ xs
+none-cleared [] = refl
+none-cleared (x ∷ xs) = λ i. cleared-none x i ∷ none-cleared xs i
+
+-- ---- what the first bits decode to
+-- the first b bits of the coding
+abbrev pub decodedFirst : ℕ → ℕ → List ℤ → ℕ → Settled
+decodedFirst k L xs b = decodeOf k L (planeCount xs) (take b (codeOf k L xs))
+
+-- the first b bits end in plane `plane`, behind the coding of which the planes below it come
+pub record EndsIn (k L : ℕ) (xs : List ℤ) (b : ℕ) : Type 0 where
+  pub plane : ℕ
+  pub after : length (planesCode (depth k L) L xs plane) < length (codeOf k L xs) - b
+  pub before : length (codeOf k L xs) - b ≤ length (planesCode (depth k L) L xs (suc plane))
+  pub counted : (decodedFirst k L xs b) .unfinished ≡ suc plane
+
+module _ (k L : ℕ) (xs : List ℤ) (levels : L < k) (square : length xs ≡ 4 ^ k) (numbers-in : numbersIn xs ≡ true) where
+  abbrev d : ℕ
+  d = depth k L
+
+  abbrev n : ℕ
+  n = planeCount xs
+
+  abbrev code : List Bool
+  code = codeOf k L xs
+
+  pub closed : Closes d L (drop (4 ^ suc d) xs)
+  closed = plane-closes d L xs (square ∙ ap (λ j. 4 ^ j) (let e : k ≡ suc d + L = omega arith in e))
+
+  starts : map (cleared n) xs ≡ replicate (4 ^ k) (pos 0)
+  starts = all-cleared n xs (count-fits xs numbers-in) ∙ ap (λ j. replicate j (pos 0)) square
+
+  decoded : (l : List Bool) {v : List ℤ × ℕ} {t : Tape} → run d L xs closed n l ≡ (v, t)
+      → decodeOf k L n l ≡ record { numbers = v .0; unfinished = v .1; read = length l - length (t .left) }
+  unfolding decodeOf
+  decoded l e =
+      ap {B = Settled} (λ q. record { numbers = q .0 .0; unfinished = q .0 .1; read = length l - length (q .1 .left) })
+      (ap (λ z. walkPlanes Decoder d L n z (tape l false)) (sym starts) ∙ e)
+
+  -- The whole coding, whatever stands behind it, decodes to the numbers, and no bit behind it is read.
+  pub whole : (r : List Bool) → decodeOf k L n (code ++ r) ≡ record { numbers = xs; unfinished = 0; read = length code }
+  unfolding codeOf
+  whole r =
+      decoded (code ++ r) (run-whole d L xs closed n r)
+      ∙ (λ i. record { numbers = none-cleared xs i; unfinished = 0; read = (let e : length (code ++ r) - length r ≡ length code = omega (arith, length-append code r) in e) i })
+
+  pub all-bits : (b : ℕ) → length code ≤ b → decodedFirst k L xs b ≡ record { numbers = xs; unfinished = 0; read = length code }
+  all-bits b h = ap (decodeOf k L n) (take-all b code h ∙ sym (append-nil code)) ∙ whole []
+
+  -- the first b bits and the first c, neither all of them
+  some-bits : (b c : ℕ) → b ≤ c → c < length code
+      → Further d L xs n (length code - b) (length code - c) (run d L xs closed n (take b code)) (run d L xs closed n (take c code))
+  unfolding codeOf
+  some-bits b c h g =
+      let k = take (c - b) (drop b code) in
+      let join : take b code ++ k ≡ take c code = sym (take-add b (c - b) code) ∙ ap (λ j. take j code) (let e : b + (c - b) ≡ c = omega arith in e) in
+      let m = drop (suc c) code in
+      let a = getD code c false in
+      let rest : drop c code ≡ a ∷ m = drop-cons code c false g in
+      let e : (take b code ++ k) ++ a ∷ m ≡ code = (λ i. join i ++ sym rest i) ∙ take-append-drop c code in
+      let still : length (a ∷ m) ≡ length code - c = ap length (sym rest) ∙ length-drop c code in
+      let missing : length (k ++ a ∷ m) ≡ length code - b = length-append k (a ∷ m) ∙ omega (arith, length-take (c - b) (drop b code), length-drop b code) in
+      (rw (missing, still, join) at (run-part d L xs closed n (take b code) k a m e))
+
+  -- number i, where the decoder stops in a plane
+  stopped-at : (b i : ℕ) {missing p j : ℕ} → Stopped d L xs n missing p j (run d L xs closed n (take b code))
+      → at ((decodedFirst k L xs b) .numbers) i ≡ cleared (unsettled p j i) (at xs i)
+  stopped-at b i {p = p} {j = j} S = ap (λ (s : Settled). at (s .numbers) i) (decoded (take b code) (S .is)) ∙ settled-at p j xs i
+
+  pub split-bits : (b : ℕ) (A : Type 0) → (length code ≤ b → A) → (b < length code → A) → A
+  split-bits b A f g = go (ltb b (length code)) refl
+    where
+      go : (o : Bool) → ltb b (length code) ≡ o → A
+      go true e = g (ltb-true b (length code) e)
+      go false e = f (ltb-false b (length code) e)
+
+  -- Of any first part: no magnitude is above the true one, none short by more than 2 ^ p - 1, none but 0 has the wrong sign.
+  pub truth : (b i : ℕ) → Truthful ((decodedFirst k L xs b) .unfinished) (at xs i) (at ((decodedFirst k L xs b) .numbers) i)
+  truth b i = split-bits b _ every some
+    where
+      every : length code ≤ b → Truthful ((decodedFirst k L xs b) .unfinished) (at xs i) (at ((decodedFirst k L xs b) .numbers) i)
+      every h = rw (all-bits b h) (record { notAbove = omega arith; notShort = omega arith; rightSign = λ _. refl })
+
+      some : b < length code → Truthful ((decodedFirst k L xs b) .unfinished) (at xs i) (at ((decodedFirst k L xs b) .numbers) i)
+      some g =
+          let S = some-bits b b (omega arith) g in
+          rw (stopped-at b i (S .fewer), decoded (take b code) (S .fewer .is)) (cleared-truthful (unsettled (S .plane) (S .count) i) (suc (S .plane)) (at xs i) (unsettled-most (S .plane) (S .count) i))
+
+  -- So no number is further than 2 ^ p - 1 from the truth.
+  pub near : (b i : ℕ) → natAbs (at xs i -ℤ at ((decodedFirst k L xs b) .numbers) i) ≤ 2 ^ (decodedFirst k L xs b) .unfinished - 1
+  near b i = split-bits b _ every some
+    where
+      x : ℤ
+      x = at xs i
+
+      every : length code ≤ b → natAbs (x -ℤ at ((decodedFirst k L xs b) .numbers) i) ≤ 2 ^ (decodedFirst k L xs b) .unfinished - 1
+      every h = rw (all-bits b h) (omega (arith, no-gap x))
+
+      some : b < length code → natAbs (x -ℤ at ((decodedFirst k L xs b) .numbers) i) ≤ 2 ^ (decodedFirst k L xs b) .unfinished - 1
+      some g =
+          let S = some-bits b b (omega arith) g in
+          let q = unsettled (S .plane) (S .count) i in
+          rw (stopped-at b i (S .fewer), decoded (take b code) (S .fewer .is)) (omega (arith, cleared-gap q x, lt-high q (natAbs x), pow-mono (unsettled-most (S .plane) (S .count) i)))
+
+  -- More bits never move a number away from the truth.
+  pub better : (b c i : ℕ) → b ≤ c
+      → natAbs (at xs i -ℤ at ((decodedFirst k L xs c) .numbers) i) ≤ natAbs (at xs i -ℤ at ((decodedFirst k L xs b) .numbers) i)
+  better b c i h = split-bits c _ every some
+    where
+      x : ℤ
+      x = at xs i
+
+      every : length code ≤ c → natAbs (x -ℤ at ((decodedFirst k L xs c) .numbers) i) ≤ natAbs (x -ℤ at ((decodedFirst k L xs b) .numbers) i)
+      every g = rw (all-bits c g) (omega (arith, no-gap x))
+
+      some : c < length code → natAbs (x -ℤ at ((decodedFirst k L xs c) .numbers) i) ≤ natAbs (x -ℤ at ((decodedFirst k L xs b) .numbers) i)
+      some g =
+          let S = some-bits b c h g in
+          let q = unsettled (S .plane) (S .count) i in
+          let r = unsettled (S .plane′) (S .count′) i in
+          rw (stopped-at b i (S .fewer), stopped-at c i (S .more)) (omega (arith, cleared-gap q x, cleared-gap r x, high-mono r q (natAbs x) (S .settles i)))
+
+  pub ends-in : (b : ℕ) → b < length code → EndsIn k L xs b
+  ends-in b g =
+      let S = some-bits b b (omega arith) g in
+      record {
+        plane = S .plane;
+        after = S .fewer .after;
+        before = S .fewer .before;
+        counted = ap (λ (s : Settled). s .unfinished) (decoded (take b code) (S .fewer .is));
+      }

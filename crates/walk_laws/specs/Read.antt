@@ -1,0 +1,305 @@
+-- What decoding reads of any bits at all: all of them while a plane is unfinished, none after plane 0 is complete,
+-- and never more than a fixed count. It writes as many numbers as there are places.
+use mathlib.Core.Path.{_≡_, refl, sym, ap, _∙_}
+use mathlib.Core.Bool.{Bool, true, false}
+use mathlib.Core.Option.{Option, none, some}
+use mathlib.Core.List.{List, [], _∷_, _++_, append-nil}
+use Prim.Native.Nat.{ℕ, zero, suc, _+_, _*_, _-_, _^_, _<_, _≤_}
+use native.Mathlib.Nat.{suc-mul, mul-le-mul-right, pow-le-pow-right}
+use native.Mathlib.Omega.{arith}
+use lib.Dec.{leb}
+use borrow.Author.Tests.{leb-true, leb-false}
+use lib.IntN.{ℤ, pos, natAbs}
+use lib.ListN.{length, take, drop, replicate, length-take, length-drop, length-append, length-replicate, take-append-drop}
+use lib.Seq.{drop-drop, take-all}
+use Rattle.paper.specs.Sizes.{mostSize, mostPlanes}
+use Rattle.paper.specs.Walk.{reaches, Decoder, Tape, nextBit, isOne, testSet, refined, begun, walkNumber, walkNumbers, walkSet, walkRest, walkPlane, walkPlanes, depth, decodeOf, Settled, _next_}
+use Rattle.walk_laws.specs.Asks.{behind, test-known, test-asks, number-known, number-asks, afterBit, opened}
+use Rattle.walk_laws.specs.Together.{tape, Decodes}
+use Rattle.walk_laws.specs.Bound.{setTests, restTests, set-tests, rest-tests}
+
+-- ---- a walk and its tape
+-- P says what is known of the answer, by whether a bit was missed.
+-- Enough: c of the bits l are read, c at most K, and bits behind them change nothing.
+record Enough {A : Type 0} (P : Bool → A → Type 0) (K : ℕ) (f : Decodes A) (l : List Bool) : Type 0 where
+  answer : A
+  known : P false answer
+  c : ℕ
+  few : c ≤ K
+  there : c ≤ length l
+  is : (r : List Bool) → f (tape (l ++ r) false) ≡ (answer, tape (drop c l ++ r) false)
+
+-- Missed: all of t is read, and a bit is missed.
+record Missed {A : Type 0} (P : Bool → A → Type 0) (f : Decodes A) (t : Tape) : Type 0 where
+  answer : A
+  known : P true answer
+  is : f t ≡ (answer, tape [] true)
+
+data Outcome {A : Type 0} (P : Bool → A → Type 0) (K : ℕ) (f : Decodes A) (l : List Bool) : Type 0 where
+  enough : Enough P K f l → Outcome P K f l
+  short : length l < K → Missed P f (tape l false) → Outcome P K f l
+
+-- any bits, and a tape on which one has been missed
+record Reads {A : Type 0} (P : Bool → A → Type 0) (K : ℕ) (f : Decodes A) : Type 0 where
+  from : (l : List Bool) → Outcome P K f l
+  over : Missed P f (tape [] true)
+
+-- where P leaves nothing to choose
+abbrev Any : {A : Type 0} → Bool → A → Type 0
+Any m a = Unit {0}
+
+abbrev Length : ℕ → Bool → List ℤ → Type 0
+Length n m zs = length zs ≡ n
+
+module _ {A B : Type 0} {P : Bool → A → Type 0} {Q : Bool → B → Type 0} {K J : ℕ} {f : Decodes A} (g : A → Decodes B) (F : Reads P K f)
+    (G : (a : A) → P false a → (l : List Bool) → Outcome Q J (g a) l) (H : (a : A) → P true a → Missed Q (g a) (tape [] true)) where
+  then-missed : {t : Tape} → Missed P f t → Missed Q (λ t. g ((f t) .0) ((f t) .1)) t
+  then-missed M = let N = H (M .answer) (M .known) in record { answer = N .answer; known = N .known; is = ap (λ r. g (r .0) (r .1)) (M .is) ∙ N .is }
+
+  reads-then : Reads Q (K + J) (λ t. g ((f t) .0) ((f t) .1))
+  reads-then = record { from = λ l. go l (F .from l); over = then-missed (F .over) }
+    where
+      on : (l : List Bool) (E : Enough P K f l) → Outcome Q J (g (E .answer)) (drop (E .c) l) → Outcome Q (K + J) (λ t. g ((f t) .0) ((f t) .1)) l
+      on l E (enough D) = enough (record {
+        answer = D .answer;
+        known = D .known;
+        c = E .c + D .c;
+        few = omega (arith, E .few, D .few);
+        there = omega (arith, E .there, D .there, length-drop (E .c) l);
+        is = λ r. ap (λ s. g (s .0) (s .1)) (E .is r) ∙ D .is r ∙ ap (λ m. (D .answer, tape (m ++ r) false)) (drop-drop (D .c) (E .c) l);
+      })
+      on l E (short h M) = short (omega (arith, h, E .few, E .there, length-drop (E .c) l)) (record {
+        answer = M .answer;
+        known = M .known;
+        is = ap (λ m. g ((f (tape m false)) .0) ((f (tape m false)) .1)) (sym (append-nil l)) ∙ ap (λ s. g (s .0) (s .1)) (E .is [])
+            ∙ ap (λ m. g (E .answer) (tape m false)) (append-nil (drop (E .c) l)) ∙ M .is;
+      })
+
+      go : (l : List Bool) → Outcome P K f l → Outcome Q (K + J) (λ t. g ((f t) .0) ((f t) .1)) l
+      go l (enough E) = on l E (G (E .answer) (E .known) (drop (E .c) l))
+      go l (short h M) = short (omega arith) (then-missed M)
+
+-- one walk, then another that reads at most J bits whatever the first says
+reads-both : {A B : Type 0} {P : Bool → A → Type 0} {Q : Bool → B → Type 0} {K J : ℕ} {f : Decodes A} (g : A → Decodes B) → Reads P K f
+    → ((m : Bool) (a : A) → P m a → Reads Q J (g a)) → Reads Q (K + J) (λ t. g ((f t) .0) ((f t) .1))
+reads-both g F G = reads-then g F (λ a p. G false a p .from) (λ a p. G true a p .over)
+
+reads-more : {A : Type 0} {P : Bool → A → Type 0} {K : ℕ} {f : Decodes A} (J : ℕ) → K ≤ J → Reads P K f → Reads P J f
+reads-more {A} {P} {K} {f} J h F = record { from = λ l. go l (F .from l); over = F .over }
+  where
+    go : (l : List Bool) → Outcome P K f l → Outcome P J f l
+    go l (enough E) = enough (record { answer = E .answer; known = E .known; c = E .c; few = omega (arith, E .few); there = E .there; is = E .is })
+    go l (short g M) = short (omega arith) M
+
+reads-done : {A : Type 0} {P : Bool → A → Type 0} (a : A) → ((m : Bool) → P m a) → Reads P 0 (λ t. (a, t))
+reads-done a p = record {
+  from = λ l. enough (record { answer = a; known = p false; c = 0; few = omega arith; there = omega arith; is = λ r. refl });
+  over = record { answer = a; known = p true; is = refl };
+}
+
+reads-bit : Reads {A = Option Bool} Any 1 (λ t. nextBit (t .left) (t .missed))
+reads-bit = record { from = go; over = record { answer = none; known = tt; is = refl } }
+  where
+    go : (l : List Bool) → Outcome {A = Option Bool} Any 1 (λ t. nextBit (t .left) (t .missed)) l
+    go [] = short (omega arith) (record { answer = none; known = tt; is = refl })
+    go (b ∷ l) = enough (record { answer = some b; known = tt; c = 1; few = omega arith; there = omega arith; is = λ r. refl })
+
+-- ---- one plane
+reads-test : (p : ℕ) (xs : List ℤ) → Reads {A = Bool} Any 1 (testSet Decoder p xs)
+reads-test p xs = go (reaches (2 ^ suc p) xs) refl
+  where
+    go : (b : Bool) → reaches (2 ^ suc p) xs ≡ b → Reads {A = Bool} Any 1 (testSet Decoder p xs)
+    go true e = rw (test-known Decoder p xs e) (reads-more 1 (omega arith) (reads-done {P = Any} true (λ _. tt)))
+    go false e = rw (test-asks Decoder p xs e) (reads-both (λ b. Decoder .done (isOne Decoder b)) reads-bit (λ _ b _. reads-done {P = Any} (isOne Decoder b) (λ _. tt)))
+
+reads-sign : (p : ℕ) (x : ℤ) (o : Bool) → Reads (Length 1) 1 (afterBit Decoder p x o)
+reads-sign p x true = reads-both (λ s. Decoder .done (begun Decoder p x s ∷ [])) reads-bit (λ _ s _. reads-done {P = Length 1} (begun Decoder p x s ∷ []) (λ _. refl))
+reads-sign p x false = reads-more 1 (omega arith) (reads-done {P = Length 1} (x ∷ []) (λ _. refl))
+
+reads-number : (p : ℕ) (x : ℤ) → Reads (Length 1) 2 (walkNumber Decoder p x)
+reads-number p x = go (leb (2 ^ suc p) (natAbs x)) refl
+  where
+    go : (b : Bool) → leb (2 ^ suc p) (natAbs x) ≡ b → Reads (Length 1) 2 (walkNumber Decoder p x)
+    go true e =
+        rw (number-known Decoder p x e)
+        (reads-more 2 (omega arith) (reads-both (λ b. Decoder .done (refined Decoder p x b ∷ [])) reads-bit (λ _ b _. reads-done {P = Length 1} (refined Decoder p x b ∷ []) (λ _. refl))))
+    go false e = rw (number-asks Decoder p x e) (reads-both (λ b. afterBit Decoder p x (isOne Decoder b)) reads-bit (λ _ b _. reads-sign p x (isOne Decoder b)))
+
+reads-next : {m n K J : ℕ} {f g : Decodes (List ℤ)} (s : ℕ) → m + n ≡ s → Reads (Length m) K f → Reads (Length n) J g → Reads (Length s) (K + J) (_next_ Decoder f g)
+unfolding _next_
+reads-next {m} {n} {K} {J} {f} {g} s e F G =
+    reads-both (λ a t. let r = g t in (a ++ r .0, r .1)) F
+    (λ _ a h. reads-more J (omega arith) (reads-both (λ b t. (a ++ b, t)) G (λ _ b k. reads-done {P = Length s} (a ++ b) (λ _. length-append a b ∙ omega arith))))
+
+reads-numbers : (p : ℕ) (xs : List ℤ) → Reads (Length (length xs)) (2 * length xs) (walkNumbers Decoder p xs)
+unfolding walkNumbers
+reads-numbers p [] = reads-done {P = Length 0} [] (λ _. refl)
+reads-numbers p (x ∷ xs) = reads-more (2 * length (x ∷ xs)) (omega arith) (reads-next (length (x ∷ xs)) (omega arith) (reads-number p x) (reads-numbers p xs))
+
+-- as many numbers come back as xs has, for at most K tests and two bits a number
+record Walks (K : ℕ) (xs : List ℤ) (f : Decodes (List ℤ)) : Type 0 where
+  reads : Reads (Length (length xs)) (K + 2 * length xs) f
+
+walks-done : (K : ℕ) (xs : List ℤ) → Walks K xs (λ t. (xs, t))
+walks-done K xs = record { reads = reads-more (K + 2 * length xs) (omega arith) (reads-done {P = Length (length xs)} xs (λ _. refl)) }
+
+walks-tested : {K : ℕ} (p : ℕ) (xs : List ℤ) (f : Decodes (List ℤ)) → Walks K xs f → Walks (suc K) xs (Decoder .then (testSet Decoder p xs) (opened Decoder xs f))
+walks-tested {K} p xs f F = record { reads = reads-more (suc K + 2 * length xs) (omega arith) (reads-both (opened Decoder xs f) (reads-test p xs) (λ _ o _. go o)) }
+  where
+    go : (o : Bool) → Reads (Length (length xs)) (K + 2 * length xs) (opened Decoder xs f o)
+    go true = F .reads
+    go false = walks-done K xs .reads
+
+-- the first n numbers, then the others
+walks-split : {K J : ℕ} (n : ℕ) (xs : List ℤ) {f g : Decodes (List ℤ)} → Walks K (take n xs) f → Walks J (drop n xs) g → Walks (K + J) xs (_next_ Decoder f g)
+walks-split {K} {J} n xs F G =
+    let e : length (take n xs) + length (drop n xs) ≡ length xs = sym (length-append (take n xs) (drop n xs)) ∙ ap length (take-append-drop n xs) in
+    record { reads = reads-more (K + J + 2 * length xs) (omega arith) (reads-next (length xs) e (F .reads) (G .reads)) }
+
+walks-three : {K J : ℕ} (q : ℕ) (xs : List ℤ) (f : List ℤ → Decodes (List ℤ)) {g : Decodes (List ℤ)} → ((ys : List ℤ) → Walks K ys (f ys)) → Walks J (behind q xs) g
+    → Walks (K + (K + (K + J))) xs (_next_ Decoder (f (take q xs)) (_next_ Decoder (f (take q (drop q xs))) (_next_ Decoder (f (take q (drop q (drop q xs)))) g)))
+walks-three q xs f F G = walks-split q xs (F _) (walks-split q (drop q xs) (F _) (walks-split q (drop q (drop q xs)) (F _) G))
+
+walks-set : (p d : ℕ) (xs : List ℤ) → Walks (setTests d) xs (walkSet Decoder p d xs)
+unfolding walkSet setTests
+walks-set p zero xs = walks-tested p xs _ (record { reads = reads-more (0 + 2 * length xs) (omega arith) (reads-numbers p xs) })
+walks-set p (suc d) xs = walks-tested p xs _ (walks-three (4 ^ suc d) xs (walkSet Decoder p d) (walks-set p d) (walks-set p d _))
+
+walks-rest : (p d left : ℕ) (xs : List ℤ) → Walks (restTests d left) xs (walkRest Decoder p d left xs)
+unfolding walkRest restTests
+walks-rest p d zero xs = walks-done 0 xs
+walks-rest p d (suc left) xs = walks-tested p xs _ (walks-three (4 ^ suc d) xs (walkSet Decoder p d) (walks-set p d) (walks-rest p (suc d) left _))
+
+walks-plane : (d L p : ℕ) (xs : List ℤ) → Walks (setTests d + restTests d L) xs (walkPlane Decoder d L p xs)
+unfolding walkPlane
+walks-plane d L p xs = walks-split (4 ^ suc d) xs (walks-set p d (take (4 ^ suc d) xs)) (walks-rest p d L (drop (4 ^ suc d) xs))
+
+-- ---- the planes
+-- N numbers come back, and a plane is unfinished exactly if a bit was missed
+record Counted (N : ℕ) (m : Bool) (v : List ℤ × ℕ) : Type 0 where
+  numbers : length (v .0) ≡ N
+  none-left : m ≡ false → v .1 ≡ 0
+  some-left : m ≡ true → 0 < v .1
+
+-- the most bits of one plane of N numbers
+abbrev planeMost : ℕ → ℕ → ℕ → ℕ
+planeMost d L N = setTests d + restTests d L + 2 * N
+
+module _ (d L N : ℕ) where
+  -- what follows a plane
+  then-plane : ℕ → List ℤ → Decodes (List ℤ × ℕ)
+  then-plane p ys t = (elim (t .missed) as (λ _. Decodes (List ℤ × ℕ)) [ true ↦ Decoder .done (ys, suc p) | false ↦ walkPlanes Decoder d L p ys ]) t
+
+  reads-planes : (n : ℕ) (xs : List ℤ) → length xs ≡ N → (l : List Bool) → Outcome (Counted N) (n * planeMost d L N) (walkPlanes Decoder d L n xs) l
+  unfolding walkPlanes then-plane
+  reads-planes zero xs h l = enough (record {
+    answer = (xs, 0);
+    known = record { numbers = h; none-left = λ _. refl; some-left = λ e. absurd (let z : _≡_ {A = ℕ} 0 1 = cc in omega arith) };
+    c = 0;
+    few = omega arith;
+    there = omega arith;
+    is = λ r. refl;
+  })
+  reads-planes (suc p) xs h l = more (reads-then {J = p * planeMost d L N} (then-plane p) (walks-plane d L p xs .reads) (λ ys k. below ys (reads-planes p ys (k ∙ h))) stops .from l)
+    where
+      below : (ys : List ℤ) → ((l : List Bool) → Outcome (Counted N) (p * planeMost d L N) (walkPlanes Decoder d L p ys) l) → (l : List Bool) → Outcome (Counted N) (p * planeMost d L N) (then-plane p ys) l
+      below ys ih l = go (ih l)
+        where
+          go : Outcome (Counted N) (p * planeMost d L N) (walkPlanes Decoder d L p ys) l → Outcome (Counted N) (p * planeMost d L N) (then-plane p ys) l
+          go (enough E) = enough (record { answer = E .answer; known = E .known; c = E .c; few = E .few; there = E .there; is = E .is })
+          go (short g M) = short g (record { answer = M .answer; known = M .known; is = M .is })
+
+      stops : (ys : List ℤ) → length ys ≡ length xs → Missed (Counted N) (then-plane p ys) (tape [] true)
+      stops ys k = record {
+        answer = (ys, suc p);
+        known = record { numbers = k ∙ h; none-left = λ e. absurd (let z : _≡_ {A = ℕ} 0 1 = cc in omega arith); some-left = λ _. omega arith };
+        is = refl;
+      }
+
+      more : Outcome (Counted N) (setTests d + restTests d L + 2 * length xs + p * planeMost d L N) (walkPlanes Decoder d L (suc p) xs) l → Outcome (Counted N) (suc p * planeMost d L N) (walkPlanes Decoder d L (suc p) xs) l
+      more O = rw (let e : suc p * planeMost d L N ≡ setTests d + restTests d L + 2 * length xs + p * planeMost d L N = omega (arith, suc-mul p (planeMost d L N)) in e) O
+
+-- ---- decoding
+module _ (k L n : ℕ) where
+  abbrev d : ℕ
+  d = depth k L
+
+  abbrev start : List ℤ
+  start = replicate (4 ^ k) (pos 0)
+
+  abbrev most : ℕ
+  most = n * planeMost d L (4 ^ k)
+
+  outcome : (l : List Bool) → Outcome (Counted (4 ^ k)) most (walkPlanes Decoder d L n start) l
+  outcome l = reads-planes d L (4 ^ k) n start (length-replicate (4 ^ k) (pos 0)) l
+
+  decoded-as : (l : List Bool) {v : List ℤ × ℕ} {t : Tape} → walkPlanes Decoder d L n start (tape l false) ≡ (v, t)
+      → decodeOf k L n l ≡ record { numbers = v .0; unfinished = v .1; read = length l - length (t .left) }
+  unfolding decodeOf
+  decoded-as l e = ap {B = Settled} (λ r. record { numbers = r .0 .0; unfinished = r .0 .1; read = length l - length (r .1 .left) }) e
+
+  -- what enough bits decode to, whatever stands behind them
+  decoded-enough : (l r : List Bool) (E : Enough (Counted (4 ^ k)) most (walkPlanes Decoder d L n start) l) → decodeOf k L n (l ++ r) ≡ record { numbers = E .answer .0; unfinished = E .answer .1; read = E .c }
+  decoded-enough l r E =
+      decoded-as (l ++ r) (E .is r)
+      ∙ ap {B = Settled} (λ j. record { numbers = E .answer .0; unfinished = E .answer .1; read = j })
+      (let e : length (l ++ r) - length (drop (E .c) l ++ r) ≡ E .c = omega (arith, length-append l r, length-append (drop (E .c) l) r, length-drop (E .c) l, E .there) in e)
+
+  alone : (l : List Bool) (E : Enough (Counted (4 ^ k)) most (walkPlanes Decoder d L n start) l) → decodeOf k L n l ≡ record { numbers = E .answer .0; unfinished = E .answer .1; read = E .c }
+  alone l E = ap (decodeOf k L n) (sym (append-nil l)) ∙ decoded-enough l [] E
+
+  -- All S² numbers are written.
+  pub places : (l : List Bool) → length ((decodeOf k L n l) .numbers) ≡ 4 ^ k
+  places l = go (outcome l)
+    where
+      go : Outcome (Counted (4 ^ k)) most (walkPlanes Decoder d L n start) l → length ((decodeOf k L n l) .numbers) ≡ 4 ^ k
+      go (enough E) = rw (alone l E) (E .known .numbers)
+      go (short h M) = rw (decoded-as l (M .is)) (M .known .numbers)
+
+  -- No more bits are read than there are.
+  pub read-most : (l : List Bool) → (decodeOf k L n l) .read ≤ length l
+  unfolding decodeOf
+  read-most l = omega arith
+
+  -- All of them are read while a plane is unfinished.
+  pub read-all : (l : List Bool) → 0 < (decodeOf k L n l) .unfinished → (decodeOf k L n l) .read ≡ length l
+  read-all l = go (outcome l)
+    where
+      go : Outcome (Counted (4 ^ k)) most (walkPlanes Decoder d L n start) l → 0 < (decodeOf k L n l) .unfinished → (decodeOf k L n l) .read ≡ length l
+      go (enough E) h = absurd (omega (arith, E .known .none-left refl, ap (λ (s : Settled). s .unfinished) (alone l E)))
+      go (short g M) h = rw (decoded-as l (M .is)) (omega arith)
+
+  -- No bit is read after plane 0 is complete: bits behind it change nothing.
+  pub read-none : (l r : List Bool) → (decodeOf k L n l) .unfinished ≡ 0 → decodeOf k L n (l ++ r) ≡ decodeOf k L n l
+  read-none l r = go (outcome l)
+    where
+      go : Outcome (Counted (4 ^ k)) most (walkPlanes Decoder d L n start) l → (decodeOf k L n l) .unfinished ≡ 0 → decodeOf k L n (l ++ r) ≡ decodeOf k L n l
+      go (enough E) h = decoded-enough l r E ∙ sym (alone l E)
+      go (short g M) h = absurd (omega (arith, M .known .some-left refl, ap (λ (s : Settled). s .unfinished) (decoded-as l (M .is))))
+
+  -- bits beyond the most that can be read change nothing
+  beyond : (K : ℕ) → most ≤ K → (l : List Bool) → decodeOf k L n l ≡ decodeOf k L n (take K l)
+  beyond K h l = go (leb (length l) K) refl
+    where
+      go : (b : Bool) → leb (length l) K ≡ b → decodeOf k L n l ≡ decodeOf k L n (take K l)
+      go true e = ap (decodeOf k L n) (sym (take-all K l (leb-true (length l) K e)))
+      go false e = on (outcome (take K l))
+        where
+          on : Outcome (Counted (4 ^ k)) most (walkPlanes Decoder d L n start) (take K l) → decodeOf k L n l ≡ decodeOf k L n (take K l)
+          on (enough E) = ap (decodeOf k L n) (sym (take-append-drop K l)) ∙ decoded-enough (take K l) (drop K l) E ∙ sym (alone (take K l) E)
+          on (short g M) = absurd (omega (arith, g, h, length-take K l, leb-false (length l) K e))
+
+-- more bits than any decoding reads
+abbrev pub readLimit : ℕ
+readLimit = 4194304
+
+-- Of any bits, those after the limit change nothing.
+pub read-limit : (k L n : ℕ) → L < k → k ≤ mostSize → n ≤ mostPlanes → (l : List Bool) → decodeOf k L n l ≡ decodeOf k L n (take readLimit l)
+read-limit k L n h g m = beyond k L n readLimit enough-bits
+  where
+    enough-bits : most k L n ≤ readLimit
+    enough-bits =
+        let e : suc (depth k L) + L ≡ k = omega arith in
+        let b : 4 ^ k ≤ 4 ^ 8 = pow-le-pow-right {n = 4} (omega arith) g in
+        let c : planeMost (depth k L) L (4 ^ k) ≤ 196608 = omega (arith, set-tests (depth k L), rest-tests (depth k L) L, ap (λ j. 4 ^ j) e) in
+        omega (arith, mul-le-mul-right (planeMost (depth k L) L (4 ^ k)) m)
