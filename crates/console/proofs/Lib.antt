@@ -1,0 +1,2 @@
+-- What is proved of the exported functions beside their contracts.
+pub mod Settled
