@@ -1,8 +1,8 @@
--- Settled in full, for C and Rust: no second outcome satisfies the contract of an exported function, refused or not. What an
--- outcome is, and what one outcome means, is said in label/proofs/Settled.antt; here it is about what the archive exports.
-use mathlib.Core.Path.{sym, _∙_}
+-- The exported functions do the jobs, and are settled in full. What an outcome is, and what this says, stands in
+-- label/proofs/Settled.antt; here it is about the contracts of what the archive exports.
+use mathlib.Core.Path.{sym}
 use contract.Lifetimes.{Lfts}
-use Rattle.label.proofs.Settled.{OneOutcome, forward-outcome, code-outcome, decode-outcome, inverse-outcome, write-outcome, read-outcome, check-outcome}
+use Rattle.label.proofs.Settled.{Does, OneOutcome, one-outcome, forward-job, forward-outcome, code-job, code-outcome, decode-job, decode-outcome, inverse-job, inverse-outcome, write-job, write-outcome, read-job, read-outcome, check-job, check-outcome}
 use Rattle.console.proofs.label_forward.Reads as label_forward
 use Rattle.console.proofs.label_code.Reads as label_code
 use Rattle.console.proofs.label_decode.Reads as label_decode
@@ -11,23 +11,44 @@ use Rattle.console.proofs.label_write.Reads as label_write
 use Rattle.console.proofs.label_read.Reads as label_read
 use Rattle.console.proofs.label_block_check.Reads as label_block_check
 
+pub forward-does : (κs : Lfts 2) → Does (label_forward.Post κs) (forward-job κs) (forward-outcome κs)
+forward-does κs a r s x = x
+
 pub forward-settled : (κs : Lfts 2) → OneOutcome (label_forward.Post κs) (forward-outcome κs)
-forward-settled κs a r q s t x y = sym x ∙ y
+forward-settled κs = one-outcome (label_forward.Post κs) (forward-job κs) (forward-outcome κs) (forward-does κs)
+
+pub code-does : (κs : Lfts 2) → Does (label_code.Post κs) (code-job κs) (code-outcome κs)
+code-does κs a r s x = x
 
 pub code-settled : (κs : Lfts 2) → OneOutcome (label_code.Post κs) (code-outcome κs)
-code-settled κs a r q s t x y = sym x ∙ y
+code-settled κs = one-outcome (label_code.Post κs) (code-job κs) (code-outcome κs) (code-does κs)
+
+pub decode-does : (κs : Lfts 2) → Does (label_decode.Post κs) (decode-job κs) (decode-outcome κs)
+decode-does κs a r s x = x
 
 pub decode-settled : (κs : Lfts 2) → OneOutcome (label_decode.Post κs) (decode-outcome κs)
-decode-settled κs a r q s t x y = sym x ∙ y
+decode-settled κs = one-outcome (label_decode.Post κs) (decode-job κs) (decode-outcome κs) (decode-does κs)
+
+pub inverse-does : (κs : Lfts 3) → Does (label_inverse.Post κs) (inverse-job κs) (inverse-outcome κs)
+inverse-does κs a r s x = x
 
 pub inverse-settled : (κs : Lfts 3) → OneOutcome (label_inverse.Post κs) (inverse-outcome κs)
-inverse-settled κs a r q s t x y = sym x ∙ y
+inverse-settled κs = one-outcome (label_inverse.Post κs) (inverse-job κs) (inverse-outcome κs) (inverse-does κs)
+
+pub write-does : (κs : Lfts 3) → Does (label_write.Post κs) (write-job κs) (write-outcome κs)
+write-does κs a r s x = x
 
 pub write-settled : (κs : Lfts 3) → OneOutcome (label_write.Post κs) (write-outcome κs)
-write-settled κs a r q s t x y = sym x ∙ y
+write-settled κs = one-outcome (label_write.Post κs) (write-job κs) (write-outcome κs) (write-does κs)
+
+pub read-does : (κs : Lfts 3) → Does (label_read.Post κs) (read-job κs) (read-outcome κs)
+read-does κs a r s x = x
 
 pub read-settled : (κs : Lfts 3) → OneOutcome (label_read.Post κs) (read-outcome κs)
-read-settled κs a r q s t x y = sym x ∙ y
+read-settled κs = one-outcome (label_read.Post κs) (read-job κs) (read-outcome κs) (read-does κs)
+
+pub check-does : (κs : Lfts 1) → Does (label_block_check.Post κs) (check-job κs) (check-outcome κs)
+check-does κs a r s x = sym x
 
 pub check-settled : (κs : Lfts 1) → OneOutcome (label_block_check.Post κs) (check-outcome κs)
-check-settled κs a r q s t x y = x ∙ sym y
+check-settled κs = one-outcome (label_block_check.Post κs) (check-job κs) (check-outcome κs) (check-does κs)

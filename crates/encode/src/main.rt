@@ -100,7 +100,7 @@ fn read_and_encode(levels: u32, limit: usize, line: &mut [u8]) -> usize {
 fn number_argument(i: usize) -> Number {
     let mut text = [0u8; 16];
     let count = os::arg(i, &mut text);
-    figures::whole_number(&text[..count])
+    pgm::whole_number(&text[..count])
 }
 
 // The bit limit, which is beyond all bits where it is not given.

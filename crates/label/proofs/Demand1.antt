@@ -14,78 +14,38 @@ use Rattle.paper.specs.Block.{isLabel, payloadBytes, payloadStart, checksRight,
 use Rattle.paper.specs.Record.{blocksFor, wholeBlocks, blockAt, inTurn, turnRefusal}
 use Rattle.paper.specs.Jobs.{sizesRefusal, isSquare, Forward, forwardRefusal, forwardJob, Coding, codingRefusal, codingJob, Decoding, decodingRefusal, decodingJob, Inverse, inverseRefusal, inverseJob, Writing, writingRefusal, writingJob, Read, readingRefusal, readingJob, checkJob}
 use Rattle.sizes.proofs.Ranges.{both-first}
-use Rattle.label.specs.Table.{Row, row, Lowest, forwardRows, codingRows, decodingRows, inverseRows, writingRows, readingRows, checkRows}
-use Rattle.label.proofs.Rows.{first, lowest, answered, unchanged}
+use Rattle.label.specs.Table.{Row, row, Lowest, Refuses, forwardRows, codingRows, decodingRows, inverseRows, writingRows, readingRows, checkRows}
+use Rattle.label.proofs.Rows.{first, lowest, judged-refuses}
 
 -- ---- forward
-module _ (k L : ℕ) (picture : List ℕ) (numbers : List ℤ) where
-  forward-first : forwardRefusal k L picture numbers ≡ first (forwardRows k L picture numbers)
-  unfolding forwardRefusal sizesRefusal
-  forward-first = refl
-
-  pub forward-lowest : Lowest (forwardRows k L picture numbers) ((forwardJob k L picture numbers) .refusal)
-  unfolding forwardJob
-  forward-lowest = subst (Lowest (forwardRows k L picture numbers)) (sym (answered {A = Forward} (λ a. a .refusal) _ _ (λ r. refl) refl (forwardRefusal k L picture numbers) ∙ forward-first)) (lowest 0 (forwardRows k L picture numbers) refl)
-
-  pub forward-unchanged : 0 < (forwardJob k L picture numbers) .refusal → forwardJob k L picture numbers ≡ record { refusal = forwardRefusal k L picture numbers; n = 0; numbers = numbers }
-  unfolding forwardJob
-  forward-unchanged h = unchanged {A = Forward} (λ a. a .refusal) _ _ (λ r. refl) refl (forwardRefusal k L picture numbers) h
+pub forward-refuses : (k L : ℕ) (picture : List ℕ) (numbers : List ℤ)
+    → Refuses (λ (a : Forward). a .refusal) (forwardRows k L picture numbers) (forwardJob k L picture numbers) (λ r. record { refusal = r; n = 0; numbers = numbers })
+unfolding forwardJob forwardRefusal sizesRefusal
+forward-refuses k L picture numbers = judged-refuses _ _ _ _ _ (λ r l. refl) (λ r. refl) refl _ refl refl
 
 -- ---- coding
-module _ (k L : ℕ) (numbers : List ℤ) (limit : ℕ) (bytes : List ℕ) where
-  coding-first : codingRefusal k L numbers ≡ first (codingRows k L numbers)
-  unfolding codingRefusal sizesRefusal
-  coding-first = refl
-
-  pub coding-lowest : Lowest (codingRows k L numbers) ((codingJob k L numbers limit bytes) .refusal)
-  unfolding codingJob
-  coding-lowest = subst (Lowest (codingRows k L numbers)) (sym (answered {A = Coding} (λ a. a .refusal) _ _ (λ r. refl) refl (codingRefusal k L numbers) ∙ coding-first)) (lowest 0 (codingRows k L numbers) refl)
-
-  pub coding-unchanged : 0 < (codingJob k L numbers limit bytes) .refusal → codingJob k L numbers limit bytes ≡ record { refusal = codingRefusal k L numbers; written = 0; n = 0; bytes = bytes }
-  unfolding codingJob
-  coding-unchanged h = unchanged {A = Coding} (λ a. a .refusal) _ _ (λ r. refl) refl (codingRefusal k L numbers) h
+pub coding-refuses : (k L : ℕ) (numbers : List ℤ) (limit : ℕ) (bytes : List ℕ)
+    → Refuses (λ (a : Coding). a .refusal) (codingRows k L numbers) (codingJob k L numbers limit bytes) (λ r. record { refusal = r; written = 0; n = 0; bytes = bytes })
+unfolding codingJob codingRefusal sizesRefusal
+coding-refuses k L numbers limit bytes = judged-refuses _ _ _ _ _ (λ r l. refl) (λ r. refl) refl _ refl refl
 
 -- ---- decoding
-module _ (k L n : ℕ) (numbers : List ℤ) (bytes : List ℕ) (b : ℕ) where
-  decoding-first : decodingRefusal k L n numbers bytes b ≡ first (decodingRows k L n numbers bytes b)
-  unfolding decodingRefusal sizesRefusal
-  decoding-first = refl
-
-  pub decoding-lowest : Lowest (decodingRows k L n numbers bytes b) ((decodingJob k L n numbers bytes b) .refusal)
-  unfolding decodingJob
-  decoding-lowest = subst (Lowest (decodingRows k L n numbers bytes b)) (sym (answered {A = Decoding} (λ a. a .refusal) _ _ (λ r. refl) refl (decodingRefusal k L n numbers bytes b) ∙ decoding-first)) (lowest 0 (decodingRows k L n numbers bytes b) refl)
-
-  pub decoding-unchanged : 0 < (decodingJob k L n numbers bytes b) .refusal → decodingJob k L n numbers bytes b ≡ record { refusal = decodingRefusal k L n numbers bytes b; unfinished = 0; read = 0; numbers = numbers }
-  unfolding decodingJob
-  decoding-unchanged h = unchanged {A = Decoding} (λ a. a .refusal) _ _ (λ r. refl) refl (decodingRefusal k L n numbers bytes b) h
+pub decoding-refuses : (k L n : ℕ) (numbers : List ℤ) (bytes : List ℕ) (b : ℕ)
+    → Refuses (λ (a : Decoding). a .refusal) (decodingRows k L n numbers bytes b) (decodingJob k L n numbers bytes b) (λ r. record { refusal = r; unfinished = 0; read = 0; numbers = numbers })
+unfolding decodingJob decodingRefusal sizesRefusal
+decoding-refuses k L n numbers bytes b = judged-refuses _ _ _ _ _ (λ r l. refl) (λ r. refl) refl _ refl refl
 
 -- ---- inverse
-module _ (k L : ℕ) (numbers : List ℤ) (picture : List ℕ) (room : List ℤ) where
-  inverse-first : inverseRefusal k L numbers picture room ≡ first (inverseRows k L numbers picture room)
-  unfolding inverseRefusal sizesRefusal
-  inverse-first = refl
-
-  pub inverse-lowest : Lowest (inverseRows k L numbers picture room) ((inverseJob k L numbers picture room) .refusal)
-  unfolding inverseJob
-  inverse-lowest = subst (Lowest (inverseRows k L numbers picture room)) (sym (answered {A = Inverse} (λ a. a .refusal) _ _ (λ r. refl) refl (inverseRefusal k L numbers picture room) ∙ inverse-first)) (lowest 0 (inverseRows k L numbers picture room) refl)
-
-  pub inverse-unchanged : 0 < (inverseJob k L numbers picture room) .refusal → inverseJob k L numbers picture room ≡ record { refusal = inverseRefusal k L numbers picture room; picture = picture; room = room }
-  unfolding inverseJob
-  inverse-unchanged h = unchanged {A = Inverse} (λ a. a .refusal) _ _ (λ r. refl) refl (inverseRefusal k L numbers picture room) h
+pub inverse-refuses : (k L : ℕ) (numbers : List ℤ) (picture : List ℕ) (room : List ℤ)
+    → Refuses (λ (a : Inverse). a .refusal) (inverseRows k L numbers picture room) (inverseJob k L numbers picture room) (λ r. record { refusal = r; picture = picture; room = room })
+unfolding inverseJob inverseRefusal sizesRefusal
+inverse-refuses k L numbers picture room = judged-refuses _ _ _ _ _ (λ r l. refl) (λ r. refl) refl _ refl refl
 
 -- ---- record writing
-module _ (k L n : ℕ) (label bytes : List ℕ) (b : ℕ) (room : List ℕ) where
-  writing-first : writingRefusal k L n label bytes b room ≡ first (writingRows k L n label bytes b room)
-  unfolding writingRefusal sizesRefusal
-  writing-first = refl
-
-  pub writing-lowest : Lowest (writingRows k L n label bytes b room) ((writingJob k L n label bytes b room) .refusal)
-  unfolding writingJob
-  writing-lowest = subst (Lowest (writingRows k L n label bytes b room)) (sym (answered {A = Writing} (λ a. a .refusal) _ _ (λ r. refl) refl (writingRefusal k L n label bytes b room) ∙ writing-first)) (lowest 0 (writingRows k L n label bytes b room) refl)
-
-  pub writing-unchanged : 0 < (writingJob k L n label bytes b room) .refusal → writingJob k L n label bytes b room ≡ record { refusal = writingRefusal k L n label bytes b room; blocks = 0; room = room }
-  unfolding writingJob
-  writing-unchanged h = unchanged {A = Writing} (λ a. a .refusal) _ _ (λ r. refl) refl (writingRefusal k L n label bytes b room) h
+pub writing-refuses : (k L n : ℕ) (label bytes : List ℕ) (b : ℕ) (room : List ℕ)
+    → Refuses (λ (a : Writing). a .refusal) (writingRows k L n label bytes b room) (writingJob k L n label bytes b room) (λ r. record { refusal = r; blocks = 0; room = room })
+unfolding writingJob writingRefusal sizesRefusal
+writing-refuses k L n label bytes b room = judged-refuses _ _ _ _ _ (λ r l. refl) (λ r. refl) refl _ refl refl
 
 -- ---- record reading
 -- block 0 of 512 bytes or more lent is a whole block
@@ -113,13 +73,9 @@ module _ (s label room : List ℕ) where
       go true false e = refl
       go false b e = refl
 
-  pub reading-lowest : Lowest (readingRows s label room) ((readingJob s label room) .refusal)
+  pub reading-refuses : Refuses (λ (a : Read). a .refusal) (readingRows s label room) (readingJob s label room) (λ r. record { refusal = r; k = 0; L = 0; n = 0; blocks = 0; bits = 0; ended = 0; room = room })
   unfolding readingJob
-  reading-lowest = subst (Lowest (readingRows s label room)) (sym (answered {A = Read} (λ a. a .refusal) _ _ (λ r. refl) refl (readingRefusal s label room) ∙ reading-first)) (lowest 0 (readingRows s label room) refl)
-
-  pub reading-unchanged : 0 < (readingJob s label room) .refusal → readingJob s label room ≡ record { refusal = readingRefusal s label room; k = 0; L = 0; n = 0; blocks = 0; bits = 0; ended = 0; room = room }
-  unfolding readingJob
-  reading-unchanged h = unchanged {A = Read} (λ a. a .refusal) _ _ (λ r. refl) refl (readingRefusal s label room) h
+  reading-refuses = judged-refuses _ _ _ _ _ (λ r l. refl) (λ r. refl) refl _ reading-first refl
 
 -- ---- single-block check: nothing is lent but to be read
 pub check-lowest : (block : List ℕ) → Lowest (checkRows block) (checkJob block)

@@ -9,7 +9,7 @@ use lib.Dec.{ltb}
 use borrow.Author.Tests.{ltb-true}
 use Rattle.sizes.proofs.Ranges.{both-first, both-second}
 use Rattle.paper.specs.Sizes.{unless, judged}
-use Rattle.label.specs.Table.{Row, Lowest}
+use Rattle.label.specs.Table.{Row, Lowest, leavesSomething, Refuses}
 
 -- the first row that applies
 abbrev pub first : List Row → ℕ
@@ -58,12 +58,19 @@ lowest m (v ∷ rows) h = go (v .holds) refl (lowest (v .number) rows (later m v
       applies = λ p. let f = R .applies p in (f .0, List·Memᴰ.List·Memᴰ·tail (f .1), f .2, f .3);
     }
 
--- ---- a job that is judged: its refusal is the judgement, and a refused one does nothing else
-module _ {A : Type 0} (refusalOf : A → ℕ) (refused : ℕ → A) (done : A) (says : (r : ℕ) → refusalOf (refused r) ≡ r) (fine : refusalOf done ≡ 0) where
-  pub answered : (r : ℕ) → refusalOf (judged r refused done) ≡ r
+-- ---- a job that is judged by its rows: `left` is what its definition says of a refusal, which may leave something behind
+-- where the number is one that does
+module _ {A : Type 0} (refusalOf : A → ℕ) (rows : List Row) (left refused : ℕ → A) (done : A) (kept : (r : ℕ) → leavesSomething r ≡ false → left r ≡ refused r) (says : (r : ℕ) → refusalOf (left r) ≡ r) (fine : refusalOf done ≡ 0) where
+  answered : (r : ℕ) → refusalOf (judged r left done) ≡ r
   answered zero = fine
   answered (suc r) = says (suc r)
 
-  pub unchanged : (r : ℕ) → 0 < refusalOf (judged r refused done) → judged r refused done ≡ refused r
-  unchanged zero h = absurd (omega (arith, fine))
-  unchanged (suc r) h = refl
+  unchanged : (r : ℕ) → 0 < r → leavesSomething r ≡ false → judged r left done ≡ refused r
+  unchanged zero h l = absurd (omega arith)
+  unchanged (suc r) h l = kept (suc r) l
+
+  pub judged-refuses : (r : ℕ) → r ≡ first rows → rising 0 rows ≡ true → Refuses refusalOf rows (judged r left done) refused
+  judged-refuses r e h = record {
+    lowest = subst (Lowest rows) (sym (answered r ∙ e)) (lowest 0 rows h);
+    unchanged = subst (λ q. 0 < q → leavesSomething q ≡ false → judged r left done ≡ refused q) (sym (answered r)) (unchanged r);
+  }

@@ -41,10 +41,15 @@ always-n contract = let z : _≡_ {A = ℕ} 2 3 = sym (ap (λ (a : Decoding). a 
 pub always-0 : (cut 7) .unfinished ≡ 0 → ⊥
 always-0 contract = let z : _≡_ {A = ℕ} 2 0 = sym (ap (λ (a : Decoding). a .unfinished) (checked .P6)) ∙ contract in omega arith
 
--- a reader that uses block 0 and only nods at the others: a record of 3,944 bits has a byte in its second block
+-- a reader that uses block 0 and only nods at the others: a record of 3,944 bits has a byte in its second block, so the count,
+-- the bits and the payload of block 0 alone are each refuted
 abbrev two : List ℕ
 two = recordOf 5 2 3 label417 (replicate 3944 true)
 
-pub only-block-0 : (readingJob two label417 (replicate 984 0)) .blocks ≡ 1 → ⊥
+pub only-block-0 : (a : Read) → readingJob two label417 (replicate 984 0) ≡ a → (a .blocks ≡ 1 → ⊥) × (a .bits ≡ 3936 → ⊥) × (getD (a .room) 492 0 ≡ 0 → ⊥)
 unfolding sizeIn levelsIn planesIn joined bitOf bits byteOf packed allZero labelCharacter labelCharacters isLabel sameBytes plainSum weighedSum header sealed payloadOf checksRight fieldsRight blockRefusal blockOf recordOf inTurn turnRefusal runFrom bitsKept payloadKept readingRefusal readingJob
-only-block-0 contract = let z : _≡_ {A = ℕ} 2 1 = contract in omega arith
+only-block-0 a contract = (
+  λ h. let z : _≡_ {A = ℕ} 2 1 = ap (λ (a : Read). a .blocks) contract ∙ h in omega arith,
+  λ h. let z : _≡_ {A = ℕ} 3944 3936 = ap (λ (a : Read). a .bits) contract ∙ h in omega arith,
+  λ h. let z : _≡_ {A = ℕ} 255 0 = ap (λ (a : Read). getD (a .room) 492 0) contract ∙ h in omega arith,
+)

@@ -25,6 +25,16 @@ pub record Lowest (rows : List Row) (r : ℕ) : Type 0 where
   pub least : {w : Row} → List·Memᴰ w rows → w .holds ≡ false → (0 < r) × (r ≤ w .number)
   pub applies : 0 < r → (w : Row) × List·Memᴰ w rows × (w .holds ≡ false) × (w .number ≡ r)
 
+-- the numbers whose refusal leaves something behind in what was lent; in this edition there is none
+abbrev pub leavesSomething : ℕ → Bool
+leavesSomething r = false
+
+-- a job refuses by its rows: by the lowest number that applies, and then it is as `refused` says, which answers 0 for all else
+-- and holds every lent place as it was
+pub record Refuses {A : Type 0} (refusalOf : A → ℕ) (rows : List Row) (job : A) (refused : ℕ → A) : Type 0 where
+  pub lowest : Lowest rows (refusalOf job)
+  pub unchanged : 0 < refusalOf job → leavesSomething (refusalOf job) ≡ false → job ≡ refused (refusalOf job)
+
 -- ---- the rows that each job judges
 abbrev pub forwardRows : ℕ → ℕ → List ℕ → List ℤ → List Row
 forwardRows k L picture numbers =

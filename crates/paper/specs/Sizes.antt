@@ -45,6 +45,11 @@ numbersIn (x ∷ xs) = leb (natAbs x) numberLimit && numbersIn xs
 unfoldable pub mostBits : ℕ → ℕ → ℕ
 mostBits k n = n * (4 * 4 ^ k - 1) / 3 + 4 ^ k
 
+-- the most that a grey can be off with L levels and p planes unfinished, (7 L + 1) (2 ^ p - 1); two greys are never more than
+-- 255 apart
+unfoldable pub greyLimit : ℕ → ℕ → ℕ
+greyLimit L p = min 255 ((7 * L + 1) * (2 ^ p - 1))
+
 -- a row of the refusal table: its number unless the condition holds, else what the later rows say
 abbrev pub unless : ℕ → Bool → ℕ → ℕ
 unless r true later = later

@@ -4,7 +4,7 @@ use mathlib.Core.Bool.{Bool, true, false, not, _&&_, _||_}
 use mathlib.Core.List.{List, [], _∷_}
 use Prim.Native.Nat.{ℕ, zero, suc, _+_, _*_, _-_, min}
 use lib.Dec.{leb, eqb}
-use lib.ListN.{drop, getD}
+use lib.ListN.{length, drop, getD}
 use Rattle.paper.specs.Lists.{pick}
 use Rattle.pgm.specs.declared.Number.{Number}
 use Rattle.pgm.specs.declared.Header.{Header}
@@ -55,6 +55,10 @@ numberFrom value at (c ∷ s) = pick (isDigit c) (numberFrom (withDigit value c)
 
 abbrev pub missing : Number
 missing = record { value = 0; next = 0 }
+
+-- a text that is digits and nothing else; up to 999,999
+unfoldable pub wholeNumber : List ℕ → Number
+wholeNumber s = pick (eqb (numberFrom 0 0 s .next) (length s)) (numberFrom 0 0 s) missing
 
 -- a number of the header stands behind white space or comments, and has a digit
 unfoldable pub fieldAt : List ℕ → ℕ → Number

@@ -3,7 +3,7 @@ ghost use mathlib.Core.Path.{_≡_};
 ghost use mathlib.Core.Bool.{true, false};
 ghost use Prim.Native.Nat.{_+_, _≤_};
 ghost use lib.ListN.{drop};
-ghost use Rattle.pgm.specs.Header.{isSpace, isLineEnd, isDigit, isPassed, isInside, pastSpace, pastLine, withDigit, numberFrom, fieldAt, rasterAt, pastMagic, headerOf};
+ghost use Rattle.pgm.specs.Header.{isSpace, isLineEnd, isDigit, isPassed, isInside, pastSpace, pastLine, withDigit, numberFrom, wholeNumber, fieldAt, rasterAt, pastMagic, headerOf};
 
 // A number of the header, and the place behind it: 0 if the number is missing.
 pub struct Number {
@@ -129,6 +129,18 @@ pub fn number_from(bytes: &[u8], at: usize) -> Number
         i += 1;
     }
     Number { value, next: i }
+}
+
+// A text that is digits and nothing else; else its `next` is 0, as for an empty one.
+pub fn whole_number(text: &[u8]) -> Number
+    ensures { λ r. ⌜ r ≡ wholeNumber (now (text .entry)) ⌝ }
+{
+    let number = number_from(text, 0);
+    let next = number.next;
+    if next == text.len() {
+        return number;
+    }
+    Number { value: 0, next: 0 }
 }
 
 // A number with white space or a comment before it.

@@ -5,7 +5,7 @@ use Prim.Native.Nat.{ℕ}
 use Prim.Native.String.{String}
 use lib.ListN.{take, replicate}
 use Rattle.pgm.specs.Ascii.{ascii, decimal}
-use Rattle.figures.specs.Figures.{greyLimit}
+use Rattle.paper.specs.Sizes.{greyLimit}
 use Rattle.words.specs.Line.{Line, on, _puts_}
 use Rattle.remarks.specs.Said.{meanings, ended, remark, worth, reportOf, refusedOf}
 

@@ -5,7 +5,7 @@ use lib.Dec.{eqb}
 use lib.ListN.{getD}
 use Rattle.paper.specs.Lists.{pick}
 use Rattle.pgm.specs.Ascii.{ascii}
-use Rattle.figures.specs.Figures.{greyLimit}
+use Rattle.paper.specs.Sizes.{greyLimit}
 use Rattle.words.specs.Line.{Line, _puts_, figure}
 
 -- the refusal table in a person's words, in the order of its numbers; 0 refuses nothing

@@ -56,7 +56,7 @@ fn put_ended(number: u32, line: &mut [u8], at: usize) -> usize
 fn put_worth(levels: u32, unfinished: u32, line: &mut [u8], at: usize) -> usize
     ensures { λ r. ⌜ worth levels unfinished (on (now (line .entry)) at) ≡ on (now (line .exit)) r ⌝ }
 {
-    let limit = figures::grey_limit(levels, unfinished);
+    let limit = sizes::grey_limit(levels, unfinished);
     let next = put_figure(b", largest grey error: ", limit as u64, line, at);
     if unfinished == 0 {
         return put(b" (the very picture)", line, next);

@@ -2,3 +2,4 @@ pub mod Ranges
 pub mod Refusals
 pub mod Counts
 pub mod Numbers
+pub mod GreyLimit

@@ -5,7 +5,7 @@ ghost use Prim.Native.Nat.{ℕ, _+_, _*_, _/_, _^_, _≤_, max};
 ghost use lib.Dec.{leb};
 ghost use lib.IntN.{natAbs};
 ghost use Rattle.integer_laws.specs.Order.{Within};
-ghost use Rattle.paper.specs.Sizes.{sizeIn, levelsIn, planesIn, numbersIn, numberLimit, mostBits};
+ghost use Rattle.paper.specs.Sizes.{sizeIn, levelsIn, planesIn, numbersIn, numberLimit, mostBits, greyLimit};
 ghost use Rattle.paper.specs.Walk.{largest, bitsNeeded, planeCount};
 ghost use Rattle.paper.specs.Jobs.{sizesRefusal};
 
@@ -139,4 +139,21 @@ pub fn plane_count(xs: &[i32]) -> u32
     ensures { λ r. ⌜ r ≡ planeCount (now (xs .entry)) ⌝ }
 {
     bits_needed(largest(xs))
+}
+
+// How far a grey can be off, with L levels and p planes unfinished; at most 255.
+pub fn grey_limit(levels: u32, unfinished: u32) -> u32
+    ensures { λ r. ⌜ r ≡ greyLimit levels unfinished ⌝ }
+{
+    if unfinished == 0 {
+        return 0;
+    }
+    if 8 <= unfinished {
+        return 255;
+    }
+    if 37 <= levels {
+        return 255;
+    }
+    let limit = (7 * levels + 1) * ((1u32 << unfinished) - 1);
+    if limit < 255 { limit } else { 255 }
 }

@@ -1,9 +1,9 @@
 use mathlib.Core.Path.{_≡_, sym, _∙_}
 use borrow.Author.Tests.{eq-eqb, ne-eqb}
-use Rattle.figures.specs.Figures.{wholeNumber}
+use Rattle.pgm.specs.Header.{wholeNumber}
 use borrow.Author.Needs.{needs}
-use Rattle.figures.proofs.whole_number.Statement.{statement}
-use Rattle.figures.proofs.whole_number.Tie as tie
+use Rattle.pgm.proofs.whole_number.Statement.{statement}
+use Rattle.pgm.proofs.whole_number.Tie as tie
 
 number-from-requires : tie.Need-number-from-requires
 number-from-requires c κs = search needs

@@ -1,2 +1,0 @@
--- Laws of the limit on greys.
-pub mod Limit

@@ -1,2 +1,0 @@
--- Numbers that the programs take and give.
-pub mod Figures
