@@ -1,13 +1,34 @@
--- What the programs make is what the demands speak of: a picture's journey into a record, and out of what is left of it.
-use mathlib.Core.Path.{_≡_, refl, sym, ap, _∙_}
-use mathlib.Core.List.{List}
-use Prim.Native.Nat.{ℕ, zero, suc}
+-- What the programs make is what the demands speak of: a picture's journey into a record, and out of what is left of it. Both
+-- are said of the contracts of `encode` and `rebuild`, as the checker reads them from src/lib.rt (`Post` of their `Reads`).
+use mathlib.Core.Path.{_≡_, refl, sym, ap, _∙_, subst}
+use mathlib.Core.Bool.{Bool, true, false, _&&_}
+use mathlib.Core.List.{List, _++_}
+use Prim.Native.Nat.{ℕ, zero, suc, _+_}
 use native.Mathlib.Omega.{arith}
+use denote.Ref.{now}
+use denote.Triple.Clauses.{AtExit}
+use contract.Lifetimes.{Lfts}
+use borrow.Fn.World.{ArgsD, ResD}
+use borrow.Fn.Kinds.{endedOf}
+use lib.Dec.{leb}
 use lib.IntN.{ℤ}
+use lib.ListN.{length, take, drop}
+use Rattle.paper.specs.Lists.{pick}
 use Rattle.paper.specs.Sizes.{judged}
 use Rattle.paper.specs.Jobs.{Forward, forwardJob, Coding, codingJob, Writing, writingJob, Decoding, decodingJob, Inverse, inverseJob, Read, readingJob}
 use Rattle.label.specs.Journey.{intoRecord, Seen, outOfRecord}
-use Rattle.desk.specs.Desk.{Encoding, encodingOf, Rebuilding, rebuildingOf}
+use Rattle.desk.specs.Desk.{areaOf, Encoding, encodingOf, encodingIn, Rebuilding, rebuildingOf, rebuildingIn}
+use Rattle.desk.proofs.encode as encode-fn
+use Rattle.desk.proofs.encode.Kinds as encode-kinds
+use Rattle.desk.proofs.encode.Reads as encode-contract
+use Rattle.desk.proofs.rebuild as rebuild-fn
+use Rattle.desk.proofs.rebuild.Kinds as rebuild-kinds
+use Rattle.desk.proofs.rebuild.Reads as rebuild-contract
+
+-- what is not refused as 3 is the first of two
+not-3 : {A : Type 0} (refusalOf : A → ℕ) (b : Bool) (one two e : A) → refusalOf two ≡ 3 → pick b one two ≡ e → refusalOf e ≡ 0 → one ≡ e
+not-3 refusalOf true one two e t p h = p
+not-3 refusalOf false one two e t p h = absurd (omega (arith, ap refusalOf p))
 
 -- ---- into a record
 none-refused : (a b : ℕ) (w : Writing) (numbers : List ℤ) (bytes coded room : List ℕ) →
@@ -17,31 +38,81 @@ none-refused zero zero w numbers bytes coded room h = ap {B = Writing} (λ (r : 
 none-refused zero (suc b) w numbers bytes coded room h = absurd (omega arith)
 none-refused (suc a) b w numbers bytes coded room h = absurd (omega arith)
 
--- a record that encode writes is the journey's
-pub into : (k L : ℕ) (picture label : List ℕ) (limit : ℕ) (numbers : List ℤ) (bytes room : List ℕ) →
+encoding-into-record : (k L : ℕ) (picture label : List ℕ) (limit : ℕ) (numbers : List ℤ) (bytes room : List ℕ) →
     let e = encodingOf k L picture label limit numbers bytes room in
     e .refusal ≡ 0 → intoRecord k L label picture limit numbers bytes room ≡ record { refusal = 0; blocks = e .blocks; room = e .room }
 unfolding encodingOf intoRecord
-into k L picture label limit numbers bytes room h =
+encoding-into-record k L picture label limit numbers bytes room h =
     let f = forwardJob k L picture numbers in
     let c = codingJob k L (f .numbers) limit bytes in
     none-refused (f .refusal) (c .refusal) (writingJob k L (c .n) label (c .bytes) (c .written) room) (f .numbers) bytes (c .bytes) room h
 
+encoding-in : (k L : ℕ) (input : List ℕ) (start : ℕ) (label : List ℕ) (limit : ℕ) (numbers : List ℤ) (bytes room : List ℕ) (e : Encoding)
+    → encodingIn k L input start label limit numbers bytes room ≡ e → e .refusal ≡ 0
+    → intoRecord k L label (take (areaOf k) (drop start input)) limit (take (areaOf k) numbers) bytes room ≡ record { refusal = 0; blocks = e .blocks; room = e .room }
+unfolding encodingIn
+encoding-in k L input start label limit numbers bytes room e p h =
+    let area = areaOf k in
+    let is = not-3 (λ (e : Encoding). e .refusal) (leb (start + area) (length input) && leb area (length numbers)) _ _ e refl p h in
+    encoding-into-record k L (take area (drop start input)) label limit (take area numbers) bytes room (ap (λ (e : Encoding). e .refusal) is ∙ h)
+    ∙ ap {B = Writing} (λ (e : Encoding). record { refusal = 0; blocks = e .blocks; room = e .room }) is
+
+-- Where encode does not refuse, the blocks that it counts and leaves in the room are the record of the picture at its place.
+pub encode-into-record : (κs : Lfts 5) (a : ArgsD encode-fn.signature κs) (r : ResD encode-fn.signature κs) (s : AtExit (endedOf 5 encode-kinds.ps encode-kinds.r) κs)
+    → encode-contract.Post κs a r s → r .refusal ≡ 0 →
+    let k = a .0 in
+    let L = a .1 .0 in
+    let input = now (a .1 .1 .0) in
+    let start = a .1 .1 .1 .0 in
+    let label = now (a .1 .1 .1 .1 .0) in
+    let limit = a .1 .1 .1 .1 .1 .0 in
+    let numbers = now (a .1 .1 .1 .1 .1 .1 .0) in
+    let bytes = now (a .1 .1 .1 .1 .1 .1 .1 .0) in
+    let room = now (a .1 .1 .1 .1 .1 .1 .1 .1 .0) in
+    intoRecord k L label (take (areaOf k) (drop start input)) limit (take (areaOf k) numbers) bytes room ≡ record { refusal = 0; blocks = r .blocks; room = now (s .1 .1 .1 .1 .1 .1 .1 .1 .0) }
+encode-into-record κs a r s x h = encoding-in _ _ _ _ _ _ _ _ _ _ x h
+
 -- ---- out of a record
 one-refused : (a : ℕ) (d : Decoding) (i : Inverse) (picture : List ℕ) (room : List ℤ) →
     let r : Rebuilding = judged a (λ r. record { refusal = r; unfinished = d .unfinished; read = d .read; numbers = d .numbers; picture = picture; room = room }) (record { refusal = i .refusal; unfinished = d .unfinished; read = d .read; numbers = d .numbers; picture = i .picture; room = i .room }) in
-    r .refusal ≡ 0 → (i ≡ record { refusal = 0; picture = r .picture; room = r .room }) × (d .unfinished ≡ r .unfinished)
-one-refused zero d i picture room h = (ap {B = Inverse} (λ (r : ℕ). record { refusal = r; picture = i .picture; room = i .room }) h, refl)
+    r .refusal ≡ 0 → (i .refusal ≡ 0) × (i .picture ≡ r .picture) × (d .unfinished ≡ r .unfinished)
+one-refused zero d i picture room h = (h, refl, refl)
 one-refused (suc a) d i picture room h = absurd (omega arith)
 
--- a picture that decode shows is the journey's, and so are its unfinished planes
-pub out : (label s payload : List ℕ) (numbers : List ℤ) (picture : List ℕ) (room : List ℤ) →
-    let seen = outOfRecord label s payload numbers picture room in
-    let read = seen .read in
-    let r = rebuildingOf (read .k) (read .L) (read .n) (read .room) (read .bits) numbers picture room in
-    r .refusal ≡ 0 → (seen .rebuilt ≡ record { refusal = 0; picture = r .picture; room = r .room }) × (seen .decoded .unfinished ≡ r .unfinished)
-unfolding rebuildingOf outOfRecord
-out label s payload numbers picture room h =
-    let r = readingJob s label payload in
-    let d = decodingJob (r .k) (r .L) (r .n) numbers (r .room) (r .bits) in
-    one-refused (d .refusal) d (inverseJob (r .k) (r .L) (d .numbers) picture room) picture room h
+-- the front of the picture's buffer ends as the journey's picture, and the unfinished planes are the journey's
+pub record Shown (seen : Seen) (area : ℕ) (before after : List ℕ) (unfinished : ℕ) : Type 0 where
+  pub accepted : seen .rebuilt .refusal ≡ 0
+  pub picture : after ≡ seen .rebuilt .picture ++ drop area before
+  pub planes : unfinished ≡ seen .decoded .unfinished
+
+rebuilding-out-of-record : (label s payload : List ℕ) (numbers : List ℤ) (picture : List ℕ) (room : List ℤ) (q : Rebuilding) →
+    let read = readingJob s label payload in
+    let area = areaOf (read .k) in
+    rebuildingIn (read .k) (read .L) (read .n) (read .room) (read .bits) numbers picture room ≡ q → q .refusal ≡ 0
+    → Shown (outOfRecord label s payload (take area numbers) (take area picture) (take area room)) area picture (q .picture) (q .unfinished)
+unfolding rebuildingIn rebuildingOf outOfRecord
+rebuilding-out-of-record label s payload numbers picture room q p h =
+    let read = readingJob s label payload in
+    let area = areaOf (read .k) in
+    let is = not-3 (λ (q : Rebuilding). q .refusal) (leb area (length numbers) && leb area (length picture) && leb area (length room)) _ _ q refl p h in
+    let d = decodingJob (read .k) (read .L) (read .n) (take area numbers) (read .room) (read .bits) in
+    let i = inverseJob (read .k) (read .L) (d .numbers) (take area picture) (take area room) in
+    let all = one-refused (d .refusal) d i (take area picture) (take area room) (ap (λ (q : Rebuilding). q .refusal) is ∙ h) in
+    record {
+      accepted = all .0;
+      picture = sym (ap (λ (q : Rebuilding). q .picture) is) ∙ ap (λ (l : List ℕ). l ++ drop area picture) (sym (all .1));
+      planes = sym (ap (λ (q : Rebuilding). q .unfinished) is) ∙ sym (all .2);
+    }
+
+-- Where rebuild, lent what the reader gave, does not refuse, the picture and the unfinished planes are the journey's.
+pub rebuild-out-of-record : (label s payload : List ℕ) → let read = readingJob s label payload in
+    (κs : Lfts 4) (a : ArgsD rebuild-fn.signature κs) (r : ResD rebuild-fn.signature κs) (e : AtExit (endedOf 4 rebuild-kinds.ps rebuild-kinds.r) κs)
+    → rebuild-contract.Post κs a r e → r .refusal ≡ 0
+    → a .0 ≡ read .k → a .1 .0 ≡ read .L → a .1 .1 .0 ≡ read .n → now (a .1 .1 .1 .0) ≡ read .room → a .1 .1 .1 .1 .0 ≡ read .bits →
+    let area = areaOf (read .k) in
+    let numbers = now (a .1 .1 .1 .1 .1 .0) in
+    let picture = now (a .1 .1 .1 .1 .1 .1 .0) in
+    let room = now (a .1 .1 .1 .1 .1 .1 .1 .0) in
+    Shown (outOfRecord label s payload (take area numbers) (take area picture) (take area room)) area picture (now (e .1 .1 .1 .1 .1 .1 .0)) (r .unfinished)
+rebuild-out-of-record label s payload κs a r e x h k L n bytes b =
+    rebuilding-out-of-record label s payload _ _ _ _ (sym (λ i. rebuildingIn (k i) (L i) (n i) (bytes i) (b i) (now (a .1 .1 .1 .1 .1 .0)) (now (a .1 .1 .1 .1 .1 .1 .0)) (now (a .1 .1 .1 .1 .1 .1 .1 .0))) ∙ x) h

@@ -19,8 +19,8 @@ areaOf k = pick (heldSize k) (4 ^ k) 0
 
 -- what is wrong with a PGM of so many bytes: 1 no header, 2 its greys do not run to 255, 3 no square that is held,
 -- 4 greys are missing; bytes behind the raster are not looked at, since more pictures may follow
-unfoldable pub troubleOf : Header → ℕ → ℕ
-troubleOf header bytes =
+unfoldable pub faultOf : Header → ℕ → ℕ
+faultOf header bytes =
     let k = sideOf (header .width) (header .height) in
     unless 1 (header .right)
     (unless 2 (eqb (header .most) 255)
@@ -30,9 +30,9 @@ troubleOf header bytes =
 -- its k; 0 where something is wrong
 unfoldable pub foundOf : Header → ℕ → Found
 foundOf header bytes =
-    judged (troubleOf header bytes)
-    (λ r. record { trouble = r; k = 0 })
-    (record { trouble = 0; k = sideOf (header .width) (header .height) })
+    judged (faultOf header bytes)
+    (λ r. record { fault = r; k = 0 })
+    (record { fault = 0; k = sideOf (header .width) (header .height) })
 
 -- ---- a picture made a record, and what each buffer then holds
 pub record Encoding : Type 0 where

@@ -8,7 +8,7 @@ use record::Blocks;
 
 // What is wrong with a PGM, and its picture's k.
 pub struct Found {
-    pub trouble: u32,
+    pub fault: u32,
     pub k: u32,
 }
 
@@ -25,28 +25,28 @@ pub fn area(k: u32) -> usize
     }
 }
 
-// The picture of a PGM of so many bytes. Trouble is 0, or 1 no header, 2 greys that do not run to 255, 3 no square with
+// The picture of a PGM of so many bytes. Fault is 0, or 1 no header, 2 greys that do not run to 255, 3 no square with
 // a side of 8, 16, 32 or 64, 4 greys missing.
 pub fn find(header: Header, bytes: usize) -> Found
     ensures { λ r. ⌜ r ≡ foundOf header bytes ⌝ }
 {
     if !header.right {
-        return Found { trouble: 1, k: 0 };
+        return Found { fault: 1, k: 0 };
     }
     if header.most != 255 {
-        return Found { trouble: 2, k: 0 };
+        return Found { fault: 2, k: 0 };
     }
     let k = square_pgm::side_of(header.width, header.height);
     if k == 0 {
-        return Found { trouble: 3, k: 0 };
+        return Found { fault: 3, k: 0 };
     }
     if bytes < header.start {
-        return Found { trouble: 4, k: 0 };
+        return Found { fault: 4, k: 0 };
     }
     if bytes - header.start < area(k) {
-        return Found { trouble: 4, k: 0 };
+        return Found { fault: 4, k: 0 };
     }
-    Found { trouble: 0, k }
+    Found { fault: 0, k }
 }
 
 // A picture made a record, at the front of the room.

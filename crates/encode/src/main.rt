@@ -36,8 +36,8 @@ fn cut_line(bytes: usize, start: usize, line: &mut [u8]) -> usize {
     words::put(b"\n", line, header)
 }
 
-fn trouble_line(trouble: u32, header: Header, bytes: usize, line: &mut [u8]) -> usize {
-    match trouble {
+fn fault_line(fault: u32, header: Header, bytes: usize, line: &mut [u8]) -> usize {
+    match fault {
         1 => words::put(
             b"refused: there is no header of a binary PGM (P5) in the first 12288 bytes\n",
             line,
@@ -61,8 +61,8 @@ fn write_record(room: &[u8], blocks: usize, line: &mut [u8]) -> usize {
 fn encode(input: &[u8], label: &[u8], levels: u32, limit: usize, line: &mut [u8]) -> usize {
     let header = pgm::read_header(input);
     let found = desk::find(header, input.len());
-    if found.trouble != 0 {
-        return trouble_line(found.trouble, header, input.len(), line);
+    if found.fault != 0 {
+        return fault_line(found.fault, header, input.len(), line);
     }
     let mut numbers = [0i32; 4096];
     let mut bytes = [0u8; 13284];

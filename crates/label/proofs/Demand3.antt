@@ -8,12 +8,15 @@ use Prim.Native.Nat.{ℕ, zero, suc, _+_, _*_, _-_, _/_, _^_, _<_, _≤_, min}
 use native.Mathlib.Omega.{arith}
 use lib.IntN.{ℤ, pos, negsuc, natAbs, _-ℤ_}
 use lib.ListN.{length, take, getD}
+use Rattle.paper.specs.Sizes.{greyLimit}
 use Rattle.paper.specs.Lists.{at}
-use Rattle.paper.specs.Square.{greysOf, pictured}
+use Rattle.paper.specs.Places.{zOf}
+use Rattle.paper.specs.Square.{grey, greysOf, pictured}
 use Rattle.paper.specs.Walk.{negative, decodeOf, Settled}
 use Rattle.paper.specs.Record.{blocksFor}
 use Rattle.paper.specs.Jobs.{Decoding, Inverse, Read, writtenOf}
 use Rattle.sizes.proofs.Ranges.{levels-less}
+use Rattle.list_laws.specs.Made.{getD-made}
 use Rattle.integer_laws.specs.Difference.{pos-⊖, negsuc-⊖}
 use Rattle.lift.specs.Off.{Over, Off}
 use Rattle.lift.proofs.Near.{overs}
@@ -44,6 +47,16 @@ truthful-off p (pos a) (negsuc c) t = absurd (let z : _≡_ {A = ℕ} 0 1 = cc (
 truthful-off p (negsuc a) (pos zero) t = both-off (off-none (2 ^ p - 1) a (omega (arith, t .notShort)))
 truthful-off p (negsuc a) (pos (suc c)) t = absurd (let z : _≡_ {A = ℕ} 0 1 = cc (t .rightSign (λ (e : pos (suc c) ≡ pos 0). let z : suc c ≡ 0 = ap natAbs e in omega arith)) in omega arith)
 truthful-off p (negsuc a) (negsuc c) t = both-off (off-below (2 ^ p - 1) a c (omega (arith, t .notShort)) (omega (arith, t .notAbove)))
+
+-- ---- a grey is 255 at most
+grey-most : (z : ℤ) → grey z ≤ 255
+unfolding grey
+grey-most (pos g) = omega arith
+grey-most (negsuc g) = omega arith
+
+pictured-most : (k : ℕ) (greys : List ℤ) (place : ℕ) → place < 4 ^ k → getD (pictured k greys) place 0 ≤ 255
+unfolding pictured
+pictured-most k greys place h = rw (getD-made (4 ^ k) (λ place. grey (at greys (zOf k place))) place 0 h) (grey-most (at greys (zOf k place)))
 
 -- ---- any first part of the bits
 module _ (k L : ℕ) (label picture : List ℕ) (given : Given k L label picture) where
@@ -77,6 +90,14 @@ module _ (k L : ℕ) (label picture : List ℕ) (given : Given k L label picture
       let near = picture-near (2 ^ (first b) .unfinished - 1) L k true-numbers ((first b) .numbers) less N (places k L _ _) (λ z g. truthful-off _ _ _ (numbers-truthful b z)) place h in
       let back : getD (pictured k (greysOf k L true-numbers)) place 0 ≡ getD picture place 0 = ap (λ (g : List ℕ). getD g place 0) (lossless L k picture less (given .square) (given .greys)) in
       (omega (arith, near .1, back), omega (arith, near .0, back))
+
+  -- Nor by more than the number that a person is told, which stops at 255.
+  pub grey-limit-told : (b place : ℕ) → place < 4 ^ k
+      → (shows b place ≤ getD picture place 0 + greyLimit L ((first b) .unfinished)) × (getD picture place 0 ≤ shows b place + greyLimit L ((first b) .unfinished))
+  unfolding greyLimit
+  grey-limit-told b place h =
+      let off = grey-limit b place h in
+      (omega (arith, off .0, pictured-most k (greysOf k L ((first b) .numbers)) place h), omega (arith, off .1, given .greys place))
 
   -- ---- any record of it, cut anywhere that still opens
   module _ (limit : ℕ) (numbers : List ℤ) (numbers-fit : length numbers ≡ 4 ^ k) (bytes room : List ℕ) (room-fits : 512 * blocksFor (length (writtenOf k L true-numbers limit bytes)) ≤ length room)
@@ -118,6 +139,11 @@ module _ (k L : ℕ) (label picture : List ℕ) (given : Given k L label picture
           → (getD (seen m .rebuilt .picture) place 0 ≤ getD picture place 0 + (7 * L + 1) * (2 ^ (seen m .decoded .unfinished) - 1))
           × (getD picture place 0 ≤ getD (seen m .rebuilt .picture) place 0 + (7 * L + 1) * (2 ^ (seen m .decoded .unfinished) - 1))
       cut-grey-limit place h = rw (cut-unfinished, cut-picture) (grey-limit (left m) place h)
+
+      pub cut-grey-limit-told : (place : ℕ) → place < 4 ^ k
+          → (getD (seen m .rebuilt .picture) place 0 ≤ getD picture place 0 + greyLimit L (seen m .decoded .unfinished))
+          × (getD picture place 0 ≤ getD (seen m .rebuilt .picture) place 0 + greyLimit L (seen m .decoded .unfinished))
+      cut-grey-limit-told place h = rw (cut-unfinished, cut-picture) (grey-limit-told (left m) place h)
 
     -- A longer part of the record never moves a number away from the truth.
     pub cut-never-away : (m l : ℕ) → Opens m → Opens l → m ≤ l → (i : ℕ)

@@ -1,3 +1,3 @@
 -- Laws of the header written.
 pub mod Laws
-pub mod Back
+pub mod ReadBack

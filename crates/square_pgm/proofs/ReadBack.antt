@@ -15,15 +15,15 @@ pub record ReadBack (k : ℕ) (raster : List ℕ) : Type 0 where
   pub header : headerOf (headerText k ++ raster) ≡ record { right = true; width = 2 ^ k; height = 2 ^ k; most = 255; start = length (headerText k) }
   pub side : sideOf (2 ^ k) (2 ^ k) ≡ k
 
-pub record Back (raster : List ℕ) : Type 0 where
+pub record HeadersReadBack (raster : List ℕ) : Type 0 where
   pub k3 : ReadBack 3 raster
   pub k4 : ReadBack 4 raster
   pub k5 : ReadBack 5 raster
   pub k6 : ReadBack 6 raster
 
-pub back : (raster : List ℕ) → Back raster
+pub header-read-back : (raster : List ℕ) → HeadersReadBack raster
 unfolding isSpace isLineEnd isDigit isPassed isInside pastSpace pastLine withDigit numberFrom fieldAt rasterAt pastMagic headerOf sizeAmong sideOf decimal headerText
-back raster = record {
+header-read-back raster = record {
   k3 = record { header = refl; side = refl };
   k4 = record { header = refl; side = refl };
   k5 = record { header = refl; side = refl };
