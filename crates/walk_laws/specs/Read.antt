@@ -3,15 +3,15 @@
 use mathlib.Core.Path.{_≡_, refl, sym, ap, _∙_}
 use mathlib.Core.Bool.{Bool, true, false}
 use mathlib.Core.Option.{Option, none, some}
-use mathlib.Core.List.{List, [], _∷_, _++_, append-nil}
+use mathlib.Core.List.{List, [], _∷_, _++_, append-nil, append-assoc}
 use Prim.Native.Nat.{ℕ, zero, suc, _+_, _*_, _-_, _^_, _<_, _≤_}
 use native.Mathlib.Nat.{suc-mul, mul-le-mul-right, pow-le-pow-right}
 use native.Mathlib.Omega.{arith}
 use lib.Dec.{leb}
 use borrow.Author.Tests.{leb-true, leb-false}
 use lib.IntN.{ℤ, pos, natAbs}
-use lib.ListN.{length, take, drop, replicate, length-take, length-drop, length-append, length-replicate, take-append-drop}
-use lib.Seq.{drop-drop, take-all}
+use lib.ListN.{length, take, drop, replicate, length-take, length-append, length-replicate, take-append-drop}
+use lib.Seq.{take-all}
 use Rattle.paper.specs.Sizes.{mostSize, mostPlanes}
 use Rattle.paper.specs.Walk.{reaches, Decoder, Tape, nextBit, isOne, testSet, refined, begun, walkNumber, walkNumbers, walkSet, walkRest, walkPlane, walkPlanes, depth, decodeOf, Settled, _next_}
 use Rattle.walk_laws.specs.Asks.{behind, test-known, test-asks, number-known, number-asks, afterBit, opened}
@@ -20,29 +20,30 @@ use Rattle.walk_laws.specs.Bound.{setTests, restTests, set-tests, rest-t
 
 -- ---- a walk and its tape
 -- P says what is known of the answer, by whether a bit was missed.
--- Enough: c of the bits l are read, c at most K, and bits behind them change nothing.
-record Enough {A : Type 0} (P : Bool → A → Type 0) (K : ℕ) (f : Decodes A) (l : List Bool) : Type 0 where
-  answer : A
-  known : P false answer
-  c : ℕ
-  few : c ≤ K
-  there : c ≤ length l
-  is : (r : List Bool) → f (tape (l ++ r) false) ≡ (answer, tape (drop c l ++ r) false)
+-- Enough: a first part of the bits l is taken, of at most K bits, and what stands behind that part is left as it is.
+pub record Enough {A : Type 0} (P : Bool → A → Type 0) (K : ℕ) (f : Decodes A) (l : List Bool) : Type 0 where
+  pub answer : A
+  pub known : P false answer
+  pub taken : List Bool
+  pub rest : List Bool
+  pub parts : l ≡ taken ++ rest
+  pub few : length taken ≤ K
+  pub is : (r : List Bool) → f (tape (taken ++ r) false) ≡ (answer, tape r false)
 
 -- Missed: all of t is read, and a bit is missed.
-record Missed {A : Type 0} (P : Bool → A → Type 0) (f : Decodes A) (t : Tape) : Type 0 where
-  answer : A
-  known : P true answer
-  is : f t ≡ (answer, tape [] true)
+pub record Missed {A : Type 0} (P : Bool → A → Type 0) (f : Decodes A) (t : Tape) : Type 0 where
+  pub answer : A
+  pub known : P true answer
+  pub is : f t ≡ (answer, tape [] true)
 
-data Outcome {A : Type 0} (P : Bool → A → Type 0) (K : ℕ) (f : Decodes A) (l : List Bool) : Type 0 where
+pub data Outcome {A : Type 0} (P : Bool → A → Type 0) (K : ℕ) (f : Decodes A) (l : List Bool) : Type 0 where
   enough : Enough P K f l → Outcome P K f l
   short : length l < K → Missed P f (tape l false) → Outcome P K f l
 
 -- any bits, and a tape on which one has been missed
-record Reads {A : Type 0} (P : Bool → A → Type 0) (K : ℕ) (f : Decodes A) : Type 0 where
-  from : (l : List Bool) → Outcome P K f l
-  over : Missed P f (tape [] true)
+pub record Reads {A : Type 0} (P : Bool → A → Type 0) (K : ℕ) (f : Decodes A) : Type 0 where
+  pub from : (l : List Bool) → Outcome P K f l
+  pub over : Missed P f (tape [] true)
 
 -- where P leaves nothing to choose
 abbrev Any : {A : Type 0} → Bool → A → Type 0
@@ -59,24 +60,24 @@ module _ {A B : Type 0} {P : Bool → A → Type 0} {Q : Bool → B → Type 0} 
   reads-then : Reads Q (K + J) (λ t. g ((f t) .0) ((f t) .1))
   reads-then = record { from = λ l. go l (F .from l); over = then-missed (F .over) }
     where
-      on : (l : List Bool) (E : Enough P K f l) → Outcome Q J (g (E .answer)) (drop (E .c) l) → Outcome Q (K + J) (λ t. g ((f t) .0) ((f t) .1)) l
+      on : (l : List Bool) (E : Enough P K f l) → Outcome Q J (g (E .answer)) (E .rest) → Outcome Q (K + J) (λ t. g ((f t) .0) ((f t) .1)) l
       on l E (enough D) = enough (record {
         answer = D .answer;
         known = D .known;
-        c = E .c + D .c;
-        few = omega (arith, E .few, D .few);
-        there = omega (arith, E .there, D .there, length-drop (E .c) l);
-        is = λ r. ap (λ s. g (s .0) (s .1)) (E .is r) ∙ D .is r ∙ ap (λ m. (D .answer, tape (m ++ r) false)) (drop-drop (D .c) (E .c) l);
+        taken = E .taken ++ D .taken;
+        rest = D .rest;
+        parts = E .parts ∙ ap (λ m. E .taken ++ m) (D .parts) ∙ sym (append-assoc (E .taken) (D .taken) (D .rest));
+        few = omega (arith, E .few, D .few, length-append (E .taken) (D .taken));
+        is = λ r. rw append-assoc (ap (λ s. g (s .0) (s .1)) (E .is (D .taken ++ r)) ∙ D .is r);
       })
-      on l E (short h M) = short (omega (arith, h, E .few, E .there, length-drop (E .c) l)) (record {
+      on l E (short h M) = short (omega (arith, h, E .few, ap length (E .parts), length-append (E .taken) (E .rest))) (record {
         answer = M .answer;
         known = M .known;
-        is = ap (λ m. g ((f (tape m false)) .0) ((f (tape m false)) .1)) (sym (append-nil l)) ∙ ap (λ s. g (s .0) (s .1)) (E .is [])
-            ∙ ap (λ m. g (E .answer) (tape m false)) (append-nil (drop (E .c) l)) ∙ M .is;
+        is = ap (λ m. g ((f (tape m false)) .0) ((f (tape m false)) .1)) (E .parts) ∙ ap (λ s. g (s .0) (s .1)) (E .is (E .rest)) ∙ M .is;
       })
 
       go : (l : List Bool) → Outcome P K f l → Outcome Q (K + J) (λ t. g ((f t) .0) ((f t) .1)) l
-      go l (enough E) = on l E (G (E .answer) (E .known) (drop (E .c) l))
+      go l (enough E) = on l E (G (E .answer) (E .known) (E .rest))
       go l (short h M) = short (omega arith) (then-missed M)
 
 -- one walk, then another that reads at most J bits whatever the first says
@@ -88,12 +89,12 @@ reads-more : {A : Type 0} {P : Bool → A → Type 0} {K : ℕ} {f : Decodes A} 
 reads-more {A} {P} {K} {f} J h F = record { from = λ l. go l (F .from l); over = F .over }
   where
     go : (l : List Bool) → Outcome P K f l → Outcome P J f l
-    go l (enough E) = enough (record { answer = E .answer; known = E .known; c = E .c; few = omega (arith, E .few); there = E .there; is = E .is })
+    go l (enough E) = enough (record { answer = E .answer; known = E .known; taken = E .taken; rest = E .rest; parts = E .parts; few = omega (arith, E .few); is = E .is })
     go l (short g M) = short (omega arith) M
 
 reads-done : {A : Type 0} {P : Bool → A → Type 0} (a : A) → ((m : Bool) → P m a) → Reads P 0 (λ t. (a, t))
 reads-done a p = record {
-  from = λ l. enough (record { answer = a; known = p false; c = 0; few = omega arith; there = omega arith; is = λ r. refl });
+  from = λ l. enough (record { answer = a; known = p false; taken = []; rest = l; parts = refl; few = omega arith; is = λ r. refl });
   over = record { answer = a; known = p true; is = refl };
 }
 
@@ -102,7 +103,7 @@ reads-bit = record { from = go; over = record { answer = none; known = tt; is = 
   where
     go : (l : List Bool) → Outcome {A = Option Bool} Any 1 (λ t. nextBit (t .left) (t .missed)) l
     go [] = short (omega arith) (record { answer = none; known = tt; is = refl })
-    go (b ∷ l) = enough (record { answer = some b; known = tt; c = 1; few = omega arith; there = omega arith; is = λ r. refl })
+    go (b ∷ l) = enough (record { answer = some b; known = tt; taken = b ∷ []; rest = l; parts = refl; few = omega arith; is = λ r. refl })
 
 -- ---- one plane
 reads-test : (p : ℕ) (xs : List ℤ) → Reads {A = Bool} Any 1 (testSet Decoder p xs)
@@ -195,9 +196,10 @@ module _ (d L N : ℕ) where
   reads-planes zero xs h l = enough (record {
     answer = (xs, 0);
     known = record { numbers = h; none-left = λ _. refl; some-left = λ e. absurd (let z : _≡_ {A = ℕ} 0 1 = cc in omega arith) };
-    c = 0;
+    taken = [];
+    rest = l;
+    parts = refl;
     few = omega arith;
-    there = omega arith;
     is = λ r. refl;
   })
   reads-planes (suc p) xs h l = more (reads-then {J = p * planeMost d L N} (then-plane p) (walks-plane d L p xs .reads) (λ ys k. below ys (reads-planes p ys (k ∙ h))) stops .from l)
@@ -206,7 +208,7 @@ module _ (d L N : ℕ) where
       below ys ih l = go (ih l)
         where
           go : Outcome (Counted N) (p * planeMost d L N) (walkPlanes Decoder d L p ys) l → Outcome (Counted N) (p * planeMost d L N) (then-plane p ys) l
-          go (enough E) = enough (record { answer = E .answer; known = E .known; c = E .c; few = E .few; there = E .there; is = E .is })
+          go (enough E) = enough (record { answer = E .answer; known = E .known; taken = E .taken; rest = E .rest; parts = E .parts; few = E .few; is = E .is })
           go (short g M) = short g (record { answer = M .answer; known = M .known; is = M .is })
 
       stops : (ys : List ℤ) → length ys ≡ length xs → Missed (Counted N) (then-plane p ys) (tape [] true)
@@ -239,13 +241,14 @@ module _ (k L n : ℕ) where
   decoded-as l e = ap {B = Settled} (λ r. record { numbers = r .0 .0; unfinished = r .0 .1; read = length l - length (r .1 .left) }) e
 
   -- what enough bits decode to, whatever stands behind them
-  decoded-enough : (l r : List Bool) (E : Enough (Counted (4 ^ k)) most (walkPlanes Decoder d L n start) l) → decodeOf k L n (l ++ r) ≡ record { numbers = E .answer .0; unfinished = E .answer .1; read = E .c }
+  decoded-enough : (l r : List Bool) (E : Enough (Counted (4 ^ k)) most (walkPlanes Decoder d L n start) l) → decodeOf k L n (l ++ r) ≡ record { numbers = E .answer .0; unfinished = E .answer .1; read = length (E .taken) }
   decoded-enough l r E =
-      decoded-as (l ++ r) (E .is r)
+      let e : l ++ r ≡ E .taken ++ (E .rest ++ r) = ap (λ m. m ++ r) (E .parts) ∙ append-assoc (E .taken) (E .rest) r in
+      ap (decodeOf k L n) e ∙ decoded-as (E .taken ++ (E .rest ++ r)) (E .is (E .rest ++ r))
       ∙ ap {B = Settled} (λ j. record { numbers = E .answer .0; unfinished = E .answer .1; read = j })
-      (let e : length (l ++ r) - length (drop (E .c) l ++ r) ≡ E .c = omega (arith, length-append l r, length-append (drop (E .c) l) r, length-drop (E .c) l, E .there) in e)
+      (let e : length (E .taken ++ (E .rest ++ r)) - length (E .rest ++ r) ≡ length (E .taken) = omega (arith, length-append (E .taken) (E .rest ++ r)) in e)
 
-  alone : (l : List Bool) (E : Enough (Counted (4 ^ k)) most (walkPlanes Decoder d L n start) l) → decodeOf k L n l ≡ record { numbers = E .answer .0; unfinished = E .answer .1; read = E .c }
+  alone : (l : List Bool) (E : Enough (Counted (4 ^ k)) most (walkPlanes Decoder d L n start) l) → decodeOf k L n l ≡ record { numbers = E .answer .0; unfinished = E .answer .1; read = length (E .taken) }
   alone l E = ap (decodeOf k L n) (sym (append-nil l)) ∙ decoded-enough l [] E
 
   -- All S² numbers are written.
