@@ -71,15 +71,15 @@ pub record Further (d L : ℕ) (xs : List ℤ) (n missing still : ℕ) (r s : (L
   pub more : Stopped d L xs n still plane′ count′ s
   pub settles : (i : ℕ) → unsettled plane′ count′ i ≤ unsettled plane count i
 
-finished : (d L p : ℕ) (ys : List ℤ) (t : Tape) {zs : List ℤ} {l : List Bool} → walkPlane Decoder d L p ys t ≡ (zs, tape l false)
+pub plane-finished : (d L p : ℕ) (ys : List ℤ) (t : Tape) {zs : List ℤ} {l : List Bool} → walkPlane Decoder d L p ys t ≡ (zs, tape l false)
     → walkPlanes Decoder d L (suc p) ys t ≡ walkPlanes Decoder d L p zs (tape l false)
 unfolding walkPlanes
-finished d L p ys t h = ap (λ r. (elim (r .1 .missed) as (λ _. (Tape → (List ℤ × ℕ) × Tape)) [ true ↦ Decoder .done (r .0, suc p) | false ↦ walkPlanes Decoder d L p (r .0) ]) (r .1)) h
+plane-finished d L p ys t h = ap (λ r. (elim (r .1 .missed) as (λ _. (Tape → (List ℤ × ℕ) × Tape)) [ true ↦ Decoder .done (r .0, suc p) | false ↦ walkPlanes Decoder d L p (r .0) ]) (r .1)) h
 
-stopped : (d L p : ℕ) (ys : List ℤ) (t : Tape) {zs : List ℤ} {l : List Bool} → walkPlane Decoder d L p ys t ≡ (zs, tape l true)
+pub plane-stopped : (d L p : ℕ) (ys : List ℤ) (t : Tape) {zs : List ℤ} {l : List Bool} → walkPlane Decoder d L p ys t ≡ (zs, tape l true)
     → walkPlanes Decoder d L (suc p) ys t ≡ ((zs, suc p), tape l true)
 unfolding walkPlanes
-stopped d L p ys t h = ap (λ r. (elim (r .1 .missed) as (λ _. (Tape → (List ℤ × ℕ) × Tape)) [ true ↦ Decoder .done (r .0, suc p) | false ↦ walkPlanes Decoder d L p (r .0) ]) (r .1)) h
+plane-stopped d L p ys t h = ap (λ r. (elim (r .1 .missed) as (λ _. (Tape → (List ℤ × ℕ) × Tape)) [ true ↦ Decoder .done (r .0, suc p) | false ↦ walkPlanes Decoder d L p (r .0) ]) (r .1)) h
 
 module _ (d L : ℕ) (xs : List ℤ) (h : Closes d L (drop (4 ^ suc d) xs)) where
   abbrev code : ℕ → List Bool
@@ -101,7 +101,7 @@ module _ (d L : ℕ) (xs : List ℤ) (h : Closes d L (drop (4 ^ suc d) xs)) wher
   code-step p = ap (λ z. planeCode p ++ (walkPlanes Coder d L p z) .1) (plane-held p)
 
   past : (p : ℕ) (l l′ : List Bool) → l ≡ planeCode p ++ l′ → run (suc p) l ≡ run p l′
-  past p l l′ e = finished d L p _ _ (ap (λ l. walkPlane Decoder d L p (map (cleared (suc p)) xs) (tape l false)) e ∙ together-plane p d L xs h .full l′)
+  past p l l′ e = plane-finished d L p _ _ (ap (λ l. walkPlane Decoder d L p (map (cleared (suc p)) xs) (tape l false)) e ∙ together-plane p d L xs h .full l′)
 
   pub run-whole : (n : ℕ) (r : List Bool) → run n (code n ++ r) ≡ ((map (cleared 0) xs, 0), tape r false)
   run-whole zero r = unfold walkPlanes in refl
@@ -113,7 +113,7 @@ module _ (d L : ℕ) (xs : List ℤ) (h : Closes d L (drop (4 ^ suc d) xs)) wher
     under = omega arith;
     after = g;
     before = omega (arith, ap length (code-step p), length-append (planeCode p) (code p));
-    is = stopped d L p _ _ (S .1);
+    is = plane-stopped d L p _ _ (S .1);
   }
 
   stopped-below : (p w : ℕ) (l l′ : List Bool) {u j : ℕ} → l ≡ planeCode p ++ l′ → Stopped d L xs p w u j (run p l′) → Stopped d L xs (suc p) w u j (run (suc p) l)

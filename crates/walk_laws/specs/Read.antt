@@ -45,11 +45,26 @@ pub record Reads {A : Type 0} (P : Bool → A → Type 0) (K : ℕ) (f : Decodes
   pub from : (l : List Bool) → Outcome P K f l
   pub over : Missed P f (tape [] true)
 
+pub enough-is : {A : Type 0} {P : Bool → A → Type 0} {K : ℕ} {f : Decodes A} {l : List Bool} (E : Enough P K f l) → f (tape l false) ≡ (E .answer, tape (E .rest) false)
+enough-is {f = f} E = ap (λ m. f (tape m false)) (E .parts) ∙ E .is (E .rest)
+
+-- what is enough is enough with more behind it
+abbrev pub enough-more : {A : Type 0} {P : Bool → A → Type 0} {K : ℕ} {f : Decodes A} {l : List Bool} (r : List Bool) → Enough P K f l → Enough P K f (l ++ r)
+enough-more r E = record {
+  answer = E .answer;
+  known = E .known;
+  taken = E .taken;
+  rest = E .rest ++ r;
+  parts = ap (λ m. m ++ r) (E .parts) ∙ append-assoc (E .taken) (E .rest) r;
+  few = E .few;
+  is = E .is;
+}
+
 -- where P leaves nothing to choose
-abbrev Any : {A : Type 0} → Bool → A → Type 0
+abbrev pub Any : {A : Type 0} → Bool → A → Type 0
 Any m a = Unit {0}
 
-abbrev Length : ℕ → Bool → List ℤ → Type 0
+abbrev pub Length : ℕ → Bool → List ℤ → Type 0
 Length n m zs = length zs ≡ n
 
 module _ {A B : Type 0} {P : Bool → A → Type 0} {Q : Bool → B → Type 0} {K J : ℕ} {f : Decodes A} (g : A → Decodes B) (F : Reads P K f)
@@ -73,7 +88,7 @@ module _ {A B : Type 0} {P : Bool → A → Type 0} {Q : Bool → B → Type 0} 
       on l E (short h M) = short (omega (arith, h, E .few, ap length (E .parts), length-append (E .taken) (E .rest))) (record {
         answer = M .answer;
         known = M .known;
-        is = ap (λ m. g ((f (tape m false)) .0) ((f (tape m false)) .1)) (E .parts) ∙ ap (λ s. g (s .0) (s .1)) (E .is (E .rest)) ∙ M .is;
+        is = ap (λ s. g (s .0) (s .1)) (enough-is E) ∙ M .is;
       })
 
       go : (l : List Bool) → Outcome P K f l → Outcome Q (K + J) (λ t. g ((f t) .0) ((f t) .1)) l
@@ -81,18 +96,18 @@ module _ {A B : Type 0} {P : Bool → A → Type 0} {Q : Bool → B → Type 0} 
       go l (short h M) = short (omega arith) (then-missed M)
 
 -- one walk, then another that reads at most J bits whatever the first says
-reads-both : {A B : Type 0} {P : Bool → A → Type 0} {Q : Bool → B → Type 0} {K J : ℕ} {f : Decodes A} (g : A → Decodes B) → Reads P K f
+pub reads-both : {A B : Type 0} {P : Bool → A → Type 0} {Q : Bool → B → Type 0} {K J : ℕ} {f : Decodes A} (g : A → Decodes B) → Reads P K f
     → ((m : Bool) (a : A) → P m a → Reads Q J (g a)) → Reads Q (K + J) (λ t. g ((f t) .0) ((f t) .1))
 reads-both g F G = reads-then g F (λ a p. G false a p .from) (λ a p. G true a p .over)
 
-reads-more : {A : Type 0} {P : Bool → A → Type 0} {K : ℕ} {f : Decodes A} (J : ℕ) → K ≤ J → Reads P K f → Reads P J f
+pub reads-more : {A : Type 0} {P : Bool → A → Type 0} {K : ℕ} {f : Decodes A} (J : ℕ) → K ≤ J → Reads P K f → Reads P J f
 reads-more {A} {P} {K} {f} J h F = record { from = λ l. go l (F .from l); over = F .over }
   where
     go : (l : List Bool) → Outcome P K f l → Outcome P J f l
     go l (enough E) = enough (record { answer = E .answer; known = E .known; taken = E .taken; rest = E .rest; parts = E .parts; few = omega (arith, E .few); is = E .is })
     go l (short g M) = short (omega arith) M
 
-reads-done : {A : Type 0} {P : Bool → A → Type 0} (a : A) → ((m : Bool) → P m a) → Reads P 0 (λ t. (a, t))
+pub reads-done : {A : Type 0} {P : Bool → A → Type 0} (a : A) → ((m : Bool) → P m a) → Reads P 0 (λ t. (a, t))
 reads-done a p = record {
   from = λ l. enough (record { answer = a; known = p false; taken = []; rest = l; parts = refl; few = omega arith; is = λ r. refl });
   over = record { answer = a; known = p true; is = refl };
@@ -138,8 +153,8 @@ reads-numbers p [] = reads-done {P = Length 0} [] (λ _. refl)
 reads-numbers p (x ∷ xs) = reads-more (2 * length (x ∷ xs)) (omega arith) (reads-next (length (x ∷ xs)) (omega arith) (reads-number p x) (reads-numbers p xs))
 
 -- as many numbers come back as xs has, for at most K tests and two bits a number
-record Walks (K : ℕ) (xs : List ℤ) (f : Decodes (List ℤ)) : Type 0 where
-  reads : Reads (Length (length xs)) (K + 2 * length xs) f
+pub record Walks (K : ℕ) (xs : List ℤ) (f : Decodes (List ℤ)) : Type 0 where
+  pub reads : Reads (Length (length xs)) (K + 2 * length xs) f
 
 walks-done : (K : ℕ) (xs : List ℤ) → Walks K xs (λ t. (xs, t))
 walks-done K xs = record { reads = reads-more (K + 2 * length xs) (omega arith) (reads-done {P = Length (length xs)} xs (λ _. refl)) }
@@ -171,7 +186,7 @@ unfolding walkRest restTests
 walks-rest p d zero xs = walks-done 0 xs
 walks-rest p d (suc left) xs = walks-tested p xs _ (walks-three (4 ^ suc d) xs (walkSet Decoder p d) (walks-set p d) (walks-rest p (suc d) left _))
 
-walks-plane : (d L p : ℕ) (xs : List ℤ) → Walks (setTests d + restTests d L) xs (walkPlane Decoder d L p xs)
+pub walks-plane : (d L p : ℕ) (xs : List ℤ) → Walks (setTests d + restTests d L) xs (walkPlane Decoder d L p xs)
 unfolding walkPlane
 walks-plane d L p xs = walks-split (4 ^ suc d) xs (walks-set p d (take (4 ^ suc d) xs)) (walks-rest p d L (drop (4 ^ suc d) xs))
 
@@ -183,7 +198,7 @@ record Counted (N : ℕ) (m : Bool) (v : List ℤ × ℕ) : Type 0 where
   some-left : m ≡ true → 0 < v .1
 
 -- the most bits of one plane of N numbers
-abbrev planeMost : ℕ → ℕ → ℕ → ℕ
+abbrev pub planeMost : ℕ → ℕ → ℕ → ℕ
 planeMost d L N = setTests d + restTests d L + 2 * N
 
 module _ (d L N : ℕ) where
@@ -222,6 +237,10 @@ module _ (d L N : ℕ) where
       more O = rw (let e : suc p * planeMost d L N ≡ setTests d + restTests d L + 2 * length xs + p * planeMost d L N = omega (arith, suc-mul p (planeMost d L N)) in e) O
 
 -- ---- decoding
+-- the most bits that decoding can read
+abbrev pub mostRead : ℕ → ℕ → ℕ → ℕ
+mostRead k L n = n * planeMost (depth k L) L (4 ^ k)
+
 module _ (k L n : ℕ) where
   abbrev d : ℕ
   d = depth k L
@@ -230,7 +249,7 @@ module _ (k L n : ℕ) where
   start = replicate (4 ^ k) (pos 0)
 
   abbrev most : ℕ
-  most = n * planeMost d L (4 ^ k)
+  most = mostRead k L n
 
   outcome : (l : List Bool) → Outcome (Counted (4 ^ k)) most (walkPlanes Decoder d L n start) l
   outcome l = reads-planes d L (4 ^ k) n start (length-replicate (4 ^ k) (pos 0)) l
@@ -240,23 +259,18 @@ module _ (k L n : ℕ) where
   unfolding decodeOf
   decoded-as l e = ap {B = Settled} (λ r. record { numbers = r .0 .0; unfinished = r .0 .1; read = length l - length (r .1 .left) }) e
 
-  -- what enough bits decode to, whatever stands behind them
-  decoded-enough : (l r : List Bool) (E : Enough (Counted (4 ^ k)) most (walkPlanes Decoder d L n start) l) → decodeOf k L n (l ++ r) ≡ record { numbers = E .answer .0; unfinished = E .answer .1; read = length (E .taken) }
-  decoded-enough l r E =
-      let e : l ++ r ≡ E .taken ++ (E .rest ++ r) = ap (λ m. m ++ r) (E .parts) ∙ append-assoc (E .taken) (E .rest) r in
-      ap (decodeOf k L n) e ∙ decoded-as (E .taken ++ (E .rest ++ r)) (E .is (E .rest ++ r))
+  decoded-enough : (l : List Bool) (E : Enough (Counted (4 ^ k)) most (walkPlanes Decoder d L n start) l) → decodeOf k L n l ≡ record { numbers = E .answer .0; unfinished = E .answer .1; read = length (E .taken) }
+  decoded-enough l E =
+      decoded-as l (enough-is E)
       ∙ ap {B = Settled} (λ j. record { numbers = E .answer .0; unfinished = E .answer .1; read = j })
-      (let e : length (E .taken ++ (E .rest ++ r)) - length (E .rest ++ r) ≡ length (E .taken) = omega (arith, length-append (E .taken) (E .rest ++ r)) in e)
-
-  alone : (l : List Bool) (E : Enough (Counted (4 ^ k)) most (walkPlanes Decoder d L n start) l) → decodeOf k L n l ≡ record { numbers = E .answer .0; unfinished = E .answer .1; read = length (E .taken) }
-  alone l E = ap (decodeOf k L n) (sym (append-nil l)) ∙ decoded-enough l [] E
+      (let e : length l - length (E .rest) ≡ length (E .taken) = omega (arith, ap length (E .parts), length-append (E .taken) (E .rest)) in e)
 
   -- All S² numbers are written.
   pub places : (l : List Bool) → length ((decodeOf k L n l) .numbers) ≡ 4 ^ k
   places l = go (outcome l)
     where
       go : Outcome (Counted (4 ^ k)) most (walkPlanes Decoder d L n start) l → length ((decodeOf k L n l) .numbers) ≡ 4 ^ k
-      go (enough E) = rw (alone l E) (E .known .numbers)
+      go (enough E) = rw (decoded-enough l E) (E .known .numbers)
       go (short h M) = rw (decoded-as l (M .is)) (M .known .numbers)
 
   -- No more bits are read than there are.
@@ -269,7 +283,7 @@ module _ (k L n : ℕ) where
   read-all l = go (outcome l)
     where
       go : Outcome (Counted (4 ^ k)) most (walkPlanes Decoder d L n start) l → 0 < (decodeOf k L n l) .unfinished → (decodeOf k L n l) .read ≡ length l
-      go (enough E) h = absurd (omega (arith, E .known .none-left refl, ap (λ (s : Settled). s .unfinished) (alone l E)))
+      go (enough E) h = absurd (omega (arith, E .known .none-left refl, ap (λ (s : Settled). s .unfinished) (decoded-enough l E)))
       go (short g M) h = rw (decoded-as l (M .is)) (omega arith)
 
   -- No bit is read after plane 0 is complete: bits behind it change nothing.
@@ -277,7 +291,7 @@ module _ (k L n : ℕ) where
   read-none l r = go (outcome l)
     where
       go : Outcome (Counted (4 ^ k)) most (walkPlanes Decoder d L n start) l → (decodeOf k L n l) .unfinished ≡ 0 → decodeOf k L n (l ++ r) ≡ decodeOf k L n l
-      go (enough E) h = decoded-enough l r E ∙ sym (alone l E)
+      go (enough E) h = decoded-enough (l ++ r) (enough-more r E) ∙ sym (decoded-enough l E)
       go (short g M) h = absurd (omega (arith, M .known .some-left refl, ap (λ (s : Settled). s .unfinished) (decoded-as l (M .is))))
 
   -- bits beyond the most that can be read change nothing
@@ -289,7 +303,7 @@ module _ (k L n : ℕ) where
       go false e = on (outcome (take K l))
         where
           on : Outcome (Counted (4 ^ k)) most (walkPlanes Decoder d L n start) (take K l) → decodeOf k L n l ≡ decodeOf k L n (take K l)
-          on (enough E) = ap (decodeOf k L n) (sym (take-append-drop K l)) ∙ decoded-enough (take K l) (drop K l) E ∙ sym (alone (take K l) E)
+          on (enough E) = ap (decodeOf k L n) (sym (take-append-drop K l)) ∙ decoded-enough (take K l ++ drop K l) (enough-more (drop K l) E) ∙ sym (decoded-enough (take K l) E)
           on (short g M) = absurd (omega (arith, g, h, length-take K l, leb-false (length l) K e))
 
 -- more bits than any decoding reads
