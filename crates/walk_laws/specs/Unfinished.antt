@@ -10,7 +10,7 @@ use lib.Dec.{leb, ltb}
 use borrow.Author.Tests.{leb-true, leb-false, le-leb, lt-leb, ltb-true, ltb-false, lt-ltb, le-ltb}
 use lib.IntN.{ℤ, pos}
 use lib.ListN.{length, take, drop, replicate, length-take, length-append, length-replicate, take-append-drop}
-use lib.Seq.{take-at, take-append-add}
+use lib.Seq.{take-at, take-append-add, drop-append-seam}
 use Rattle.paper.specs.Walk.{Decoder, Tape, walkPlane, walkPlanes, depth, decodeOf, Settled}
 use Rattle.walk_laws.specs.Together.{tape, Decodes}
 use Rattle.walk_laws.specs.Bound.{setTests, restTests}
@@ -187,6 +187,12 @@ module _ (k L n : ℕ) where
   -- Then more bits change nothing about these planes.
   pub read-same : (q : ℕ) (l : List Bool) → AllRead k L n q l → (r : List Bool) → planesOver k L n q (l ++ r) ≡ ((planesOver k L n q l) .0, (planesOver k L n q l) .1 ++ r)
   read-same q l a = has-same q l (finished-has q l (read-finished q l a))
+
+  -- The bits that they take are the first ones.
+  pub through-first : (q : ℕ) (m : List Bool) → AllRead k L n q m → (planesOver k L n q m) .1 ≡ drop (bitsThrough k L n q m) m
+  through-first q m a =
+      let E = finished-has q m (read-finished q m a) in
+      ap (λ s. s .1) (has-over q m E) ∙ sym (drop-append-seam (E .taken) (E .rest)) ∙ (λ i. drop (sym (has-through q m E) i) (sym (E .parts) i))
 
   -- Of bits m that have every bit of planes n - 1 to q, the first b finish these planes exactly if they reach their last bit.
   pub cut-finished : (q : ℕ) (m : List Bool) → AllRead k L n q m → (b : ℕ) → leb (unfinished (take b m)) q ≡ leb (bitsThrough k L n q m) b
