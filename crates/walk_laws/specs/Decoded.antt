@@ -9,7 +9,7 @@ use lib.Pow.{pow-mono}
 use lib.Dec.{leb, ltb}
 use borrow.Author.Tests.{leb-false, ltb-true, ltb-false}
 use lib.IntN.{ℤ, pos, negℤ, natAbs, _-ℤ_}
-use lib.ListN.{length, take, drop, getD, replicate, length-take, length-drop, length-append, take-append-drop}
+use lib.ListN.{length, take, drop, getD, replicate, length-append, take-append-drop}
 use lib.Seq.{take-all, take-add, drop-cons}
 use Rattle.paper.specs.Sizes.{numbersIn, mostPlanes}
 use Rattle.paper.specs.Lists.{at}
@@ -20,7 +20,7 @@ use Rattle.integer_laws.specs.Order.{ints, zarith}
 use Rattle.walk_laws.specs.Cleared.{high, cleared, natAbs-cleared, high-le, lt-high, high-mono, negative-signed, signed-zero, signed-self, cleared-none, cleared-small}
 use Rattle.walk_laws.specs.Asks.{Closes, plane-closes}
 use Rattle.walk_laws.specs.Together.{tape}
-use Rattle.walk_laws.specs.Planes.{unsettled, unsettled-most, settled-at, planesCode, Stopped, Further, run, run-whole, run-part}
+use Rattle.walk_laws.specs.Planes.{unsettled, unsettled-most, settled-at, Stopped, Further, run, run-whole, run-part}
 
 -- ---- one number
 -- z, from which p planes are unfinished, against the true number x

@@ -10,15 +10,15 @@ use borrow.Author.Tests.{leb-true, leb-false, le-leb, lt-leb}
 use lib.IntN.{ℤ}
 use lib.ListN.{length, drop, length-drop}
 use Rattle.paper.specs.Sizes.{numbersIn}
-use Rattle.paper.specs.Walk.{Decoder, walkPlane, walkPlanes, planeCount, depth, codeOf, decodeOf, Settled}
+use Rattle.paper.specs.Walk.{planeCount, depth, codeOf, decodeOf, Settled}
 use Rattle.walk_laws.specs.Cleared.{cleared}
 use Rattle.walk_laws.specs.Asks.{Closes}
-use Rattle.walk_laws.specs.Together.{tape, Decodes}
+use Rattle.walk_laws.specs.Together.{tape}
 use Rattle.walk_laws.specs.Plane.{together-plane}
 use Rattle.walk_laws.specs.Planes.{planesCode, code-step}
 use Rattle.walk_laws.specs.Decoded.{decodedFirst, closed, starts, whole}
 use Rattle.walk_laws.specs.Bound.{plane-some}
-use Rattle.walk_laws.specs.Unfinished.{walkDown, planesOver, AllRead, bitsThrough, finished-read, through-first, cut-finished}
+use Rattle.walk_laws.specs.Unfinished.{walkDown, down-step, down-ends, planesOver, AllRead, bitsThrough, finished-read, through-first, cut-finished}
 
 -- how many bits the coding has up to the last bit of plane q: all but those of planes q - 1 to 0
 unfoldable pub codedThrough : ℕ → ℕ → List ℤ → ℕ → ℕ
@@ -27,18 +27,13 @@ codedThrough k L xs q = length (codeOf k L xs) - length (planesCode (depth k L) 
 -- over the coding of planes n - 1 to 0, planes n - 1 to q leave the coding of the others
 down-coding : (d L : ℕ) (xs : List ℤ) → Closes d L (drop (4 ^ suc d) xs) → (q n : ℕ) → q ≤ n
     → walkDown d L q n (map (cleared n) xs) (tape (planesCode d L xs n) false) ≡ (map (cleared q) xs, tape (planesCode d L xs q) false)
-unfolding walkDown
-down-coding d L xs h q zero g = (λ i. let e : 0 ≡ q = omega arith in (map (cleared (e i)) xs, tape (planesCode d L xs (e i)) false))
+down-coding d L xs h q zero g = unfold walkDown in (λ i. let e : 0 ≡ q = omega arith in (map (cleared (e i)) xs, tape (planesCode d L xs (e i)) false))
 down-coding d L xs h q (suc p) g = go (leb q p) refl (down-coding d L xs h q p)
   where
     go : (b : Bool) → leb q p ≡ b → (q ≤ p → walkDown d L q p (map (cleared p) xs) (tape (planesCode d L xs p) false) ≡ (map (cleared q) xs, tape (planesCode d L xs q) false))
-        → (elim b as (λ _. Decodes (List ℤ)) [ true ↦ Decoder .then (walkPlane Decoder d L p (map (cleared (suc p)) xs)) (walkDown d L q p) | false ↦ Decoder .done (map (cleared (suc p)) xs) ]) (tape (planesCode d L xs (suc p)) false)
-        ≡ (map (cleared q) xs, tape (planesCode d L xs q) false)
-    go true e ih =
-        ap (λ r. walkDown d L q p (r .0) (r .1))
-        (ap (λ l. walkPlane Decoder d L p (map (cleared (suc p)) xs) (tape l false)) (code-step d L xs h p) ∙ together-plane p d L xs h .full (planesCode d L xs p))
-        ∙ ih (leb-true q p e)
-    go false e ih = (λ i. let f : suc p ≡ q = omega (arith, leb-false q p e) in (map (cleared (f i)) xs, tape (planesCode d L xs (f i)) false))
+        → walkDown d L q (suc p) (map (cleared (suc p)) xs) (tape (planesCode d L xs (suc p)) false) ≡ (map (cleared q) xs, tape (planesCode d L xs q) false)
+    go true e ih = rw (down-step d L q p (map (cleared (suc p)) xs) e, code-step d L xs h p) (ap (λ r. walkDown d L q p (r .0) (r .1)) (together-plane p d L xs h .full (planesCode d L xs p)) ∙ ih (leb-true q p e))
+    go false e ih = rw (down-ends d L q p (map (cleared (suc p)) xs) e) (λ i. let f : suc p ≡ q = omega (arith, leb-false q p e) in (map (cleared (f i)) xs, tape (planesCode d L xs (f i)) false))
 
 module _ (k L : ℕ) (xs : List ℤ) (levels : L < k) (square : length xs ≡ 4 ^ k) (numbers-in : numbersIn xs ≡ true) where
   abbrev d : ℕ

@@ -7,7 +7,7 @@ use Prim.Native.Nat.{ℕ, zero, suc, _+_, _^_, _≤_, _<_}
 use native.Mathlib.Omega.{arith}
 use lib.Pow.{pow-pos}
 use lib.IntN.{ℤ, pos}
-use lib.ListN.{length, drop, length-append}
+use lib.ListN.{drop}
 use Rattle.paper.specs.Lists.{at}
 use Rattle.paper.specs.Walk.{Coder, Decoder, Tape, walkPlane, walkPlanes}
 use Rattle.walk_laws.specs.Cleared.{cleared, cleared-small}

@@ -2,7 +2,7 @@
 -- every bit of a plane has been read is said of the bits and not of the decoder's flag.
 use mathlib.Core.Path.{_≡_, refl, sym, ap, _∙_}
 use mathlib.Core.Bool.{Bool, true, false}
-use mathlib.Core.List.{List, [], _∷_, _++_, append-nil, append-assoc}
+use mathlib.Core.List.{List, _++_}
 use Prim.Native.Nat.{ℕ, zero, suc, _+_, _*_, _-_, _^_, _<_, _≤_}
 use native.Mathlib.Nat.{suc-mul}
 use native.Mathlib.Omega.{arith}
@@ -11,7 +11,7 @@ use borrow.Author.Tests.{leb-true, leb-false, le-leb, lt-leb, ltb-true, ltb-fals
 use lib.IntN.{ℤ, pos}
 use lib.ListN.{length, take, drop, replicate, length-take, length-append, length-replicate, take-append-drop}
 use lib.Seq.{take-at, take-append-add, drop-append-seam}
-use Rattle.paper.specs.Walk.{Decoder, Tape, walkPlane, walkPlanes, depth, decodeOf, Settled}
+use Rattle.paper.specs.Walk.{Decoder, Tape, walkPlane, walkPlanes, depth, decodeOf}
 use Rattle.walk_laws.specs.Together.{tape, Decodes}
 use Rattle.walk_laws.specs.Bound.{setTests, restTests}
 use Rattle.walk_laws.specs.Planes.{plane-finished, plane-stopped}
@@ -64,33 +64,58 @@ count-most d L (suc p) xs t = go ((walkPlane Decoder d L p xs t) .1 .missed) (co
     go true ih = omega arith
     go false ih = omega (arith, ih ((walkPlane Decoder d L p xs t) .0) ((walkPlane Decoder d L p xs t) .1))
 
+module _ (d L q p : ℕ) (xs : List ℤ) where
+  pub down-step : leb q p ≡ true → walkDown d L q (suc p) xs ≡ Decoder .then (walkPlane Decoder d L p xs) (walkDown d L q p)
+  unfolding walkDown
+  down-step e = rw (e, walkDown)
+
+  pub down-ends : leb q p ≡ false → walkDown d L q (suc p) xs ≡ Decoder .done xs
+  unfolding walkDown
+  down-ends e = rw (e, walkDown)
+
 module _ (d L N : ℕ) where
   reads-down : (q n : ℕ) (xs : List ℤ) → length xs ≡ N → Reads (Length N) (n * planeMost d L N) (walkDown d L q n xs)
-  unfolding walkDown
-  reads-down q zero xs h = reads-more (0 * planeMost d L N) (omega arith) (reads-done {P = Length N} xs (λ _. h))
-  reads-down q (suc p) xs h = go (leb q p) (reads-down q p)
+  reads-down q zero xs h = unfold walkDown in (reads-more (0 * planeMost d L N) (omega arith) (reads-done {P = Length N} xs (λ _. h)))
+  reads-down q (suc p) xs h = go (leb q p) refl (reads-down q p)
     where
-      go : (b : Bool) → ((ys : List ℤ) → length ys ≡ N → Reads (Length N) (p * planeMost d L N) (walkDown d L q p ys))
-          → Reads (Length N) (suc p * planeMost d L N) (elim b as (λ _. Decodes (List ℤ)) [ true ↦ Decoder .then (walkPlane Decoder d L p xs) (walkDown d L q p) | false ↦ Decoder .done xs ])
-      go true ih = reads-more (suc p * planeMost d L N) (omega (arith, suc-mul p (planeMost d L N))) (reads-both (walkDown d L q p) (walks-plane d L p xs .reads) (λ _ ys e. ih ys (e ∙ h)))
-      go false ih = reads-more (suc p * planeMost d L N) (omega arith) (reads-done {P = Length N} xs (λ _. h))
+      go : (b : Bool) → leb q p ≡ b → ((ys : List ℤ) → length ys ≡ N → Reads (Length N) (p * planeMost d L N) (walkDown d L q p ys)) → Reads (Length N) (suc p * planeMost d L N) (walkDown d L q (suc p) xs)
+      go true e ih =
+          rw (down-step d L q p xs e)
+          (reads-more (suc p * planeMost d L N) (omega (arith, suc-mul p (planeMost d L N))) (reads-both (walkDown d L q p) (walks-plane d L p xs .reads) (λ _ ys k. ih ys (k ∙ h))))
+      go false e ih = rw (down-ends d L q p xs e) (reads-more (suc p * planeMost d L N) (omega arith) (reads-done {P = Length N} xs (λ _. h)))
 
   -- a bit is missed in planes n - 1 to q exactly if more than q planes are unfinished
   missed-is : (q n : ℕ) (xs : List ℤ) → length xs ≡ N → (l : List Bool) → (walkDown d L q n xs (tape l false)) .1 .missed ≡ ltb q ((walkPlanes Decoder d L n xs (tape l false)) .0 .1)
-  unfolding walkDown
-  missed-is q zero xs h l = sym (le-ltb q 0 (omega arith)) ∙ (unfold walkPlanes in refl)
+  missed-is q zero xs h l = unfold walkDown walkPlanes in (sym (le-ltb q 0 (omega arith)))
   missed-is q (suc p) xs h l = go (leb q p) refl (walks-plane d L p xs .reads .from l) (missed-is q p)
     where
       go : (b : Bool) → leb q p ≡ b → Outcome (Length (length xs)) (setTests d + restTests d L + 2 * length xs) (walkPlane Decoder d L p xs) l
           → ((ys : List ℤ) → length ys ≡ N → (l : List Bool) → (walkDown d L q p ys (tape l false)) .1 .missed ≡ ltb q ((walkPlanes Decoder d L p ys (tape l false)) .0 .1))
-          → ((elim b as (λ _. Decodes (List ℤ)) [ true ↦ Decoder .then (walkPlane Decoder d L p xs) (walkDown d L q p) | false ↦ Decoder .done xs ]) (tape l false)) .1 .missed ≡ ltb q ((walkPlanes Decoder d L (suc p) xs (tape l false)) .0 .1)
+          → (walkDown d L q (suc p) xs (tape l false)) .1 .missed ≡ ltb q ((walkPlanes Decoder d L (suc p) xs (tape l false)) .0 .1)
       go true e (enough E) ih =
-          ap (λ r. (walkDown d L q p (r .0) (r .1)) .1 .missed) (enough-is E) ∙ ih (E .answer) (E .known ∙ h) (E .rest)
-          ∙ ap (λ r. ltb q (r .0 .1)) (sym (plane-finished d L p xs (tape l false) (enough-is E)))
+          rw (down-step d L q p xs e, plane-finished d L p xs (tape l false) (enough-is E))
+          (ap (λ r. (walkDown d L q p (r .0) (r .1)) .1 .missed) (enough-is E) ∙ ih (E .answer) (E .known ∙ h) (E .rest))
       go true e (short g M) ih =
-          ap (λ r. (walkDown d L q p (r .0) (r .1)) .1 .missed) (M .is) ∙ ap (λ r. r .1 .missed) (reads-down q p (M .answer) (M .known ∙ h) .over .is)
-          ∙ sym (lt-ltb q (suc p) (omega (arith, leb-true q p e))) ∙ ap (λ r. ltb q (r .0 .1)) (sym (plane-stopped d L p xs (tape l false) (M .is)))
-      go false e O ih = sym (le-ltb q _ (omega (arith, leb-false q p e, count-most d L (suc p) xs (tape l false))))
+          rw (down-step d L q p xs e, plane-stopped d L p xs (tape l false) (M .is))
+          (ap (λ r. (walkDown d L q p (r .0) (r .1)) .1 .missed) (M .is) ∙ ap (λ r. r .1 .missed) (reads-down q p (M .answer) (M .known ∙ h) .over .is) ∙ sym (lt-ltb q (suc p) (omega (arith, leb-true q p e))))
+      go false e O ih = rw (down-ends d L q p xs e) (sym (le-ltb q _ (omega (arith, leb-false q p e, count-most d L (suc p) xs (tape l false)))))
+
+  -- where none is missed, planes q - 1 to 0 go on from there
+  goes-on : (q n : ℕ) (xs : List ℤ) → length xs ≡ N → (l : List Bool) → q ≤ n → (walkDown d L q n xs (tape l false)) .1 .missed ≡ false
+      → walkPlanes Decoder d L n xs (tape l false) ≡ (let r = walkDown d L q n xs (tape l false) in walkPlanes Decoder d L q (r .0) (r .1))
+  goes-on q zero xs h l g m = unfold walkDown in (λ i. walkPlanes Decoder d L (let e : 0 ≡ q = omega arith in e i) xs (tape l false))
+  goes-on q (suc p) xs h l g m = go (leb q p) refl (walks-plane d L p xs .reads .from l) (goes-on q p)
+    where
+      go : (b : Bool) → leb q p ≡ b → Outcome (Length (length xs)) (setTests d + restTests d L + 2 * length xs) (walkPlane Decoder d L p xs) l
+          → ((ys : List ℤ) → length ys ≡ N → (l : List Bool) → q ≤ p → (walkDown d L q p ys (tape l false)) .1 .missed ≡ false
+          → walkPlanes Decoder d L p ys (tape l false) ≡ (let r = walkDown d L q p ys (tape l false) in walkPlanes Decoder d L q (r .0) (r .1)))
+          → walkPlanes Decoder d L (suc p) xs (tape l false) ≡ (let r = walkDown d L q (suc p) xs (tape l false) in walkPlanes Decoder d L q (r .0) (r .1))
+      go true e (enough E) ih =
+          let s : walkDown d L q (suc p) xs (tape l false) ≡ walkDown d L q p (E .answer) (tape (E .rest) false) = ap (λ f. f (tape l false)) (down-step d L q p xs e) ∙ ap (λ r. walkDown d L q p (r .0) (r .1)) (enough-is E) in
+          rw (s, plane-finished d L p xs (tape l false) (enough-is E)) (ih (E .answer) (E .known ∙ h) (E .rest) (leb-true q p e) (rw s at m))
+      go true e (short g M) ih =
+          absurd (omega (arith, leb-true q p e, ltb-false q _ (sym (missed-is q (suc p) xs h l) ∙ m), ap (λ r. r .0 .1) (plane-stopped d L p xs (tape l false) (M .is))))
+      go false e O ih = rw (down-ends d L q p xs e) (λ i. walkPlanes Decoder d L (let f : suc p ≡ q = omega (arith, leb-false q p e) in f i) xs (tape l false))
 
 module _ (k L n : ℕ) where
   abbrev start : List ℤ
@@ -187,6 +212,14 @@ module _ (k L n : ℕ) where
   -- Then more bits change nothing about these planes.
   pub read-same : (q : ℕ) (l : List Bool) → AllRead k L n q l → (r : List Bool) → planesOver k L n q (l ++ r) ≡ ((planesOver k L n q l) .0, (planesOver k L n q l) .1 ++ r)
   read-same q l a = has-same q l (finished-has q l (read-finished q l a))
+
+  -- With what these planes come to, and the bits that they leave, the decoding goes on to planes q - 1 to 0.
+  pub read-on : (q : ℕ) (l : List Bool) → q ≤ n → AllRead k L n q l
+      → walkPlanes Decoder (depth k L) L n start (tape l false) ≡ walkPlanes Decoder (depth k L) L q ((planesOver k L n q l) .0) (tape ((planesOver k L n q l) .1) false)
+  read-on q l h a =
+      let E = finished-has q l (read-finished q l a) in
+      goes-on (depth k L) L (4 ^ k) q n start (length-replicate (4 ^ k) (pos 0)) l h (ap (λ r. r .1 .missed) (enough-is E))
+      ∙ ap (λ r. walkPlanes Decoder (depth k L) L q (r .0) (r .1)) (enough-is E) ∙ ap (λ r. walkPlanes Decoder (depth k L) L q (r .0) (tape (r .1) false)) (sym (has-over q l E))
 
   -- The bits that they take are the first ones.
   pub through-first : (q : ℕ) (m : List Bool) → AllRead k L n q m → (planesOver k L n q m) .1 ≡ drop (bitsThrough k L n q m) m
