@@ -9,7 +9,7 @@ use lib.Pow.{pow-mono}
 use lib.Dec.{leb, ltb}
 use borrow.Author.Tests.{leb-false, ltb-true, ltb-false}
 use lib.IntN.{ℤ, pos, negℤ, natAbs, _-ℤ_}
-use lib.ListN.{length, take, drop, getD, replicate, length-take, length-drop, length-append, take-append-drop}
+use lib.ListN.{length, take, drop, getD, replicate, length-append, take-append-drop}
 use lib.Seq.{take-all, take-add, drop-cons}
 use Rattle.paper.specs.Sizes.{numbersIn, mostPlanes}
 use Rattle.paper.specs.Lists.{at}
@@ -20,7 +20,7 @@ use Rattle.integer_laws.specs.Order.{ints, zarith}
 use Rattle.walk_laws.specs.Cleared.{high, cleared, natAbs-cleared, high-le, lt-high, high-mono, negative-signed, signed-zero, signed-self, cleared-none, cleared-small}
 use Rattle.walk_laws.specs.Asks.{Closes, plane-closes}
 use Rattle.walk_laws.specs.Together.{tape}
-use Rattle.walk_laws.specs.Planes.{unsettled, unsettled-most, settled-at, planesCode, Stopped, Further, run, run-whole, run-part}
+use Rattle.walk_laws.specs.Planes.{unsettled, unsettled-most, settled-at, Stopped, Further, run, run-whole, run-part}
 
 -- ---- one number
 -- z, from which p planes are unfinished, against the true number x
@@ -88,13 +88,6 @@ none-cleared (x ∷ xs) = λ i. cleared-none x i ∷ none-cleared xs i
 abbrev pub decodedFirst : ℕ → ℕ → List ℤ → ℕ → Settled
 decodedFirst k L xs b = decodeOf k L (planeCount xs) (take b (codeOf k L xs))
 
--- the first b bits end in plane `plane`, behind the coding of which the planes below it come
-pub record EndsIn (k L : ℕ) (xs : List ℤ) (b : ℕ) : Type 0 where
-  pub plane : ℕ
-  pub after : length (planesCode (depth k L) L xs plane) < length (codeOf k L xs) - b
-  pub before : length (codeOf k L xs) - b ≤ length (planesCode (depth k L) L xs (suc plane))
-  pub counted : (decodedFirst k L xs b) .unfinished ≡ suc plane
-
 module _ (k L : ℕ) (xs : List ℤ) (levels : L < k) (square : length xs ≡ 4 ^ k) (numbers-in : numbersIn xs ≡ true) where
   abbrev d : ℕ
   d = depth k L
@@ -108,7 +101,7 @@ module _ (k L : ℕ) (xs : List ℤ) (levels : L < k) (square : length xs ≡ 4 
   pub closed : Closes d L (drop (4 ^ suc d) xs)
   closed = plane-closes d L xs (square ∙ ap (λ j. 4 ^ j) (let e : k ≡ suc d + L = omega arith in e))
 
-  starts : map (cleared n) xs ≡ replicate (4 ^ k) (pos 0)
+  pub starts : map (cleared n) xs ≡ replicate (4 ^ k) (pos 0)
   starts = all-cleared n xs (count-fits xs numbers-in) ∙ ap (λ j. replicate j (pos 0)) square
 
   decoded : (l : List Bool) {v : List ℤ × ℕ} {t : Tape} → run d L xs closed n l ≡ (v, t)
@@ -129,26 +122,20 @@ module _ (k L : ℕ) (xs : List ℤ) (levels : L < k) (square : length xs ≡ 4 
   all-bits b h = ap (decodeOf k L n) (take-all b code h ∙ sym (append-nil code)) ∙ whole []
 
   -- the first b bits and the first c, neither all of them
-  some-bits : (b c : ℕ) → b ≤ c → c < length code
-      → Further d L xs n (length code - b) (length code - c) (run d L xs closed n (take b code)) (run d L xs closed n (take c code))
+  some-bits : (b c : ℕ) → b ≤ c → c < length code → Further xs n (run d L xs closed n (take b code)) (run d L xs closed n (take c code))
   unfolding codeOf
   some-bits b c h g =
       let k = take (c - b) (drop b code) in
       let join : take b code ++ k ≡ take c code = sym (take-add b (c - b) code) ∙ ap (λ j. take j code) (let e : b + (c - b) ≡ c = omega arith in e) in
-      let m = drop (suc c) code in
-      let a = getD code c false in
-      let rest : drop c code ≡ a ∷ m = drop-cons code c false g in
-      let e : (take b code ++ k) ++ a ∷ m ≡ code = (λ i. join i ++ sym rest i) ∙ take-append-drop c code in
-      let still : length (a ∷ m) ≡ length code - c = ap length (sym rest) ∙ length-drop c code in
-      let missing : length (k ++ a ∷ m) ≡ length code - b = length-append k (a ∷ m) ∙ omega (arith, length-take (c - b) (drop b code), length-drop b code) in
-      (rw (missing, still, join) at (run-part d L xs closed n (take b code) k a m e))
+      let e : (take b code ++ k) ++ getD code c false ∷ drop (suc c) code ≡ code = (λ i. join i ++ sym (drop-cons code c false g) i) ∙ take-append-drop c code in
+      rw join at (run-part d L xs closed n (take b code) k (getD code c false) (drop (suc c) code) e)
 
   -- number i, where the decoder stops in a plane
-  stopped-at : (b i : ℕ) {missing p j : ℕ} → Stopped d L xs n missing p j (run d L xs closed n (take b code))
+  stopped-at : (b i : ℕ) {p j : ℕ} → Stopped xs n p j (run d L xs closed n (take b code))
       → at ((decodedFirst k L xs b) .numbers) i ≡ cleared (unsettled p j i) (at xs i)
   stopped-at b i {p = p} {j = j} S = ap (λ (s : Settled). at (s .numbers) i) (decoded (take b code) (S .is)) ∙ settled-at p j xs i
 
-  pub split-bits : (b : ℕ) (A : Type 0) → (length code ≤ b → A) → (b < length code → A) → A
+  split-bits : (b : ℕ) (A : Type 0) → (length code ≤ b → A) → (b < length code → A) → A
   split-bits b A f g = go (ltb b (length code)) refl
     where
       go : (o : Bool) → ltb b (length code) ≡ o → A
@@ -200,13 +187,3 @@ module _ (k L : ℕ) (xs : List ℤ) (levels : L < k) (square : length xs ≡ 4 
           let q = unsettled (S .plane) (S .count) i in
           let r = unsettled (S .plane′) (S .count′) i in
           rw (stopped-at b i (S .fewer), stopped-at c i (S .more)) (omega (arith, cleared-gap q x, cleared-gap r x, high-mono r q (natAbs x) (S .settles i)))
-
-  pub ends-in : (b : ℕ) → b < length code → EndsIn k L xs b
-  ends-in b g =
-      let S = some-bits b b (omega arith) g in
-      record {
-        plane = S .plane;
-        after = S .fewer .after;
-        before = S .fewer .before;
-        counted = ap (λ (s : Settled). s .unfinished) (decoded (take b code) (S .fewer .is));
-      }

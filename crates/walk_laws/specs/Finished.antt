@@ -1,23 +1,39 @@
--- A plane is finished with its last bit: p, the unfinished planes, is n less the planes whose every bit has been read.
-use mathlib.Core.Path.{_≡_, refl, ap}
+-- In the coding of numbers a plane is finished with its last bit and not before.
+use mathlib.Core.Path.{_≡_, refl, sym, ap, _∙_}
 use mathlib.Core.Bool.{Bool, true, false}
-use mathlib.Core.List.{List}
+use mathlib.Core.List.{List, [], map, append-nil}
 use Prim.Native.Nat.{ℕ, zero, suc, _+_, _-_, _^_, _≤_, _<_}
-use native.Mathlib.Nat.{add-zero, add-suc, add-sub-of-le, pow-le-pow-right}
+use native.Mathlib.Nat.{pow-le-pow-right}
 use native.Mathlib.Omega.{arith}
-use lib.Dec.{leb, ltb}
-use borrow.Author.Tests.{leb-true, leb-false, ltb-true, ltb-false}
+use lib.Dec.{leb}
+use borrow.Author.Tests.{leb-true, leb-false, le-leb, lt-leb}
 use lib.IntN.{ℤ}
-use lib.ListN.{length}
+use lib.ListN.{length, drop, length-drop}
 use Rattle.paper.specs.Sizes.{numbersIn}
-use Rattle.paper.specs.Walk.{planeCount, depth, codeOf, Settled}
-use Rattle.walk_laws.specs.Planes.{planesCode}
-use Rattle.walk_laws.specs.Decoded.{decodedFirst, closed, all-bits, split-bits, EndsIn, ends-in}
+use Rattle.paper.specs.Walk.{planeCount, depth, codeOf, decodeOf, Settled}
+use Rattle.walk_laws.specs.Cleared.{cleared}
+use Rattle.walk_laws.specs.Asks.{Closes}
+use Rattle.walk_laws.specs.Together.{tape}
+use Rattle.walk_laws.specs.Plane.{together-plane}
+use Rattle.walk_laws.specs.Planes.{planesCode, code-step}
+use Rattle.walk_laws.specs.Decoded.{decodedFirst, closed, starts, whole}
 use Rattle.walk_laws.specs.Bound.{plane-some}
+use Rattle.walk_laws.specs.Unfinished.{walkDown, down-step, down-ends, planesOver, AllRead, bitsThrough, finished-read, through-first, cut-finished}
 
 -- how many bits the coding has up to the last bit of plane q: all but those of planes q - 1 to 0
-unfoldable pub bitsThrough : ℕ → ℕ → List ℤ → ℕ → ℕ
-bitsThrough k L xs q = length (codeOf k L xs) - length (planesCode (depth k L) L xs q)
+unfoldable pub codedThrough : ℕ → ℕ → List ℤ → ℕ → ℕ
+codedThrough k L xs q = length (codeOf k L xs) - length (planesCode (depth k L) L xs q)
+
+-- over the coding of planes n - 1 to 0, planes n - 1 to q leave the coding of the others
+down-coding : (d L : ℕ) (xs : List ℤ) → Closes d L (drop (4 ^ suc d) xs) → (q n : ℕ) → q ≤ n
+    → walkDown d L q n (map (cleared n) xs) (tape (planesCode d L xs n) false) ≡ (map (cleared q) xs, tape (planesCode d L xs q) false)
+down-coding d L xs h q zero g = unfold walkDown in (λ i. let e : 0 ≡ q = omega arith in (map (cleared (e i)) xs, tape (planesCode d L xs (e i)) false))
+down-coding d L xs h q (suc p) g = go (leb q p) refl (down-coding d L xs h q p)
+  where
+    go : (b : Bool) → leb q p ≡ b → (q ≤ p → walkDown d L q p (map (cleared p) xs) (tape (planesCode d L xs p) false) ≡ (map (cleared q) xs, tape (planesCode d L xs q) false))
+        → walkDown d L q (suc p) (map (cleared (suc p)) xs) (tape (planesCode d L xs (suc p)) false) ≡ (map (cleared q) xs, tape (planesCode d L xs q) false)
+    go true e ih = rw (down-step d L q p (map (cleared (suc p)) xs) e, code-step d L xs h p) (ap (λ r. walkDown d L q p (r .0) (r .1)) (together-plane p d L xs h .full (planesCode d L xs p)) ∙ ih (leb-true q p e))
+    go false e ih = rw (down-ends d L q p (map (cleared (suc p)) xs) e) (λ i. let f : suc p ≡ q = omega (arith, leb-false q p e) in (map (cleared (f i)) xs, tape (planesCode d L xs (f i)) false))
 
 module _ (k L : ℕ) (xs : List ℤ) (levels : L < k) (square : length xs ≡ 4 ^ k) (numbers-in : numbersIn xs ≡ true) where
   abbrev d : ℕ
@@ -26,52 +42,43 @@ module _ (k L : ℕ) (xs : List ℤ) (levels : L < k) (square : length xs ≡ 4 
   abbrev n : ℕ
   n = planeCount xs
 
-  -- how many bits planes q - 1 to 0 have
-  abbrev lower : ℕ → ℕ
-  lower q = length (planesCode d L xs q)
+  abbrev code : List Bool
+  code = codeOf k L xs
 
-  lower-more : (q : ℕ) → lower q < lower (suc q)
-  lower-more q = plane-some d L xs (closed k L xs levels square numbers-in) q (omega (arith, square, pow-le-pow-right {n = 4} (omega arith) {i = 0} {j = k} (omega arith)))
+  coding-read : (q : ℕ) → AllRead k L n q code
+  coding-read q = finished-read k L n q code (omega (arith, ap (λ (s : Settled). s .unfinished) (ap (decodeOf k L n) (sym (append-nil code)) ∙ whole k L xs levels square numbers-in [])))
 
-  lower-add : (q t : ℕ) → lower q ≤ lower (q + t)
-  lower-add q zero = omega (arith, ap lower (add-zero q))
-  lower-add q (suc t) = omega (arith, lower-add q t, lower-more (q + t), ap lower (add-suc q t))
+  -- the decoder's count of the bits is the coder's
+  coding-left : (q : ℕ) → q ≤ n → bitsThrough k L n q code + length (planesCode d L xs q) ≡ length code
+  unfolding planesOver bitsThrough codeOf
+  coding-left q h =
+      let left : (planesOver k L n q code) .1 ≡ planesCode d L xs q = ap (λ z. (walkDown d L q n z (tape code false)) .1 .left) (sym (starts k L xs levels square numbers-in))
+      ∙ ap (λ r. r .1 .left) (down-coding d L xs (closed k L xs levels square numbers-in) q n h) in
+      omega (arith, ap length left, ap length (through-first k L n q code (coding-read q)), length-drop (bitsThrough k L n q code) code)
 
-  lower-mono : (q r : ℕ) → q ≤ r → lower q ≤ lower r
-  lower-mono q r h = omega (arith, lower-add q (r - q), ap lower (add-sub-of-le h))
-
-  -- With the last bit of plane q at most q planes are unfinished.
-  pub finished : (q b : ℕ) → bitsThrough k L xs q ≤ b → (decodedFirst k L xs b) .unfinished ≤ q
-  unfolding bitsThrough
-  finished q b h =
-      split-bits k L xs levels square numbers-in b _
-      (λ g. omega (arith, ap (λ (s : Settled). s .unfinished) (all-bits k L xs levels square numbers-in b g)))
-      (λ g. some (ends-in k L xs levels square numbers-in b g) (ltb (ends-in k L xs levels square numbers-in b g .plane) q) refl)
-    where
-      some : (E : EndsIn k L xs b) (o : Bool) → ltb (E .plane) q ≡ o → (decodedFirst k L xs b) .unfinished ≤ q
-      some E true o = omega (arith, ltb-true (E .plane) q o, E .counted)
-      some E false o = absurd (omega (arith, E .after, h, lower-mono q (E .plane) (ltb-false (E .plane) q o)))
-
-  -- Without it more than q are.
-  pub unfinished : (q b : ℕ) → b < bitsThrough k L xs q → q < (decodedFirst k L xs b) .unfinished
-  unfolding bitsThrough
-  unfinished q b h = some (ends-in k L xs levels square numbers-in b (omega arith)) (leb q (ends-in k L xs levels square numbers-in b (omega arith) .plane)) refl
-    where
-      some : (E : EndsIn k L xs b) (o : Bool) → leb q (E .plane) ≡ o → q < (decodedFirst k L xs b) .unfinished
-      some E true o = omega (arith, leb-true q (E .plane) o, E .counted)
-      some E false o = absurd (omega (arith, E .before, h, lower-mono (suc (E .plane)) q (leb-false q (E .plane) o)))
+  -- The first b bits finish planes n - 1 to q exactly if they reach the last bit of plane q.
+  pub coding-finished : (q b : ℕ) → q ≤ n → leb ((decodedFirst k L xs b) .unfinished) q ≡ leb (codedThrough k L xs q) b
+  unfolding codedThrough
+  coding-finished q b h = cut-finished k L n q code (coding-read q) b ∙ ap (λ c. leb c b) (let e : bitsThrough k L n q code ≡ length code - length (planesCode d L xs q) = omega (arith, coding-left q h) in e)
 
   -- every plane has a bit
-  through-more : (q : ℕ) → q < n → bitsThrough k L xs (suc q) < bitsThrough k L xs q
-  unfolding bitsThrough codeOf
-  through-more q h = omega (arith, lower-more q, lower-mono (suc q) n h)
+  through-more : (q : ℕ) → q < n → codedThrough k L xs (suc q) < codedThrough k L xs q
+  unfolding codedThrough
+  through-more q h =
+      omega (arith, coding-left (suc q) h, plane-some d L xs (closed k L xs levels square numbers-in) q (omega (arith, square, pow-le-pow-right {n = 4} (omega arith) {i = 0} {j = k} (omega arith))))
 
   -- So after the last bit of plane q exactly q planes are unfinished, and one bit before it q + 1.
-  pub lastBit : (q : ℕ) → q ≤ n → (decodedFirst k L xs (bitsThrough k L xs q)) .unfinished ≡ q
-  lastBit zero h = omega (arith, finished 0 (bitsThrough k L xs 0) (omega arith))
-  lastBit (suc q) h = omega (arith, finished (suc q) (bitsThrough k L xs (suc q)) (omega arith), unfinished q (bitsThrough k L xs (suc q)) (through-more q h))
+  at-most : (q b : ℕ) → q ≤ n → codedThrough k L xs q ≤ b → (decodedFirst k L xs b) .unfinished ≤ q
+  at-most q b h g = leb-true _ q (coding-finished q b h ∙ le-leb (codedThrough k L xs q) b g)
 
-  pub beforeLastBit : (q : ℕ) → q < n → (decodedFirst k L xs (bitsThrough k L xs q - 1)) .unfinished ≡ suc q
-  beforeLastBit q h =
+  more-than : (q b : ℕ) → q ≤ n → b < codedThrough k L xs q → q < (decodedFirst k L xs b) .unfinished
+  more-than q b h g = leb-false _ q (coding-finished q b h ∙ lt-leb (codedThrough k L xs q) b g)
+
+  pub last-bit : (q : ℕ) → q ≤ n → (decodedFirst k L xs (codedThrough k L xs q)) .unfinished ≡ q
+  last-bit zero h = omega (arith, at-most 0 (codedThrough k L xs 0) h (omega arith))
+  last-bit (suc q) h = omega (arith, at-most (suc q) (codedThrough k L xs (suc q)) h (omega arith), more-than q (codedThrough k L xs (suc q)) (omega arith) (through-more q h))
+
+  pub before-last-bit : (q : ℕ) → q < n → (decodedFirst k L xs (codedThrough k L xs q - 1)) .unfinished ≡ suc q
+  before-last-bit q h =
       let m = through-more q h in
-      omega (arith, finished (suc q) (bitsThrough k L xs q - 1) (omega arith), unfinished q (bitsThrough k L xs q - 1) (omega arith))
+      omega (arith, at-most (suc q) (codedThrough k L xs q - 1) h (omega arith), more-than q (codedThrough k L xs q - 1) (omega arith) (omega arith))

@@ -7,4 +7,5 @@ pub mod Decoded
 pub mod Bound
 pub mod Finished
 pub mod Read
+pub mod Unfinished
 pub mod Room

@@ -7,7 +7,7 @@ use Prim.Native.Nat.{ℕ, zero, suc, _+_, _^_, _≤_, _<_}
 use native.Mathlib.Omega.{arith}
 use lib.Pow.{pow-pos}
 use lib.IntN.{ℤ, pos}
-use lib.ListN.{length, drop, length-append}
+use lib.ListN.{drop}
 use Rattle.paper.specs.Lists.{at}
 use Rattle.paper.specs.Walk.{Coder, Decoder, Tape, walkPlane, walkPlanes}
 use Rattle.walk_laws.specs.Cleared.{cleared, cleared-small}
@@ -54,32 +54,30 @@ settled-at p (suc j) (x ∷ xs) (suc i) = settled-at p j xs i
 abbrev pub planesCode : ℕ → ℕ → List ℤ → ℕ → List Bool
 planesCode d L xs n = (walkPlanes Coder d L n xs) .1
 
--- `missing` bits before the end of the coding, the decoder is in plane `plane`, of which `count` numbers are settled
-pub record Stopped (d L : ℕ) (xs : List ℤ) (n missing plane count : ℕ) (r : (List ℤ × ℕ) × Tape) : Type 0 where
+-- the bits are out in plane `plane`, of which `count` numbers are settled
+pub record Stopped (xs : List ℤ) (n plane count : ℕ) (r : (List ℤ × ℕ) × Tape) : Type 0 where
   pub under : plane < n
-  pub after : length (planesCode d L xs plane) < missing
-  pub before : missing ≤ length (planesCode d L xs (suc plane))
   pub is : r ≡ ((settled plane count xs, suc plane), tape [] true)
 
 -- two first parts of the bits, the second not shorter: of no number does it leave more unsettled
-pub record Further (d L : ℕ) (xs : List ℤ) (n missing still : ℕ) (r s : (List ℤ × ℕ) × Tape) : Type 0 where
+pub record Further (xs : List ℤ) (n : ℕ) (r s : (List ℤ × ℕ) × Tape) : Type 0 where
   pub plane : ℕ
   pub count : ℕ
-  pub fewer : Stopped d L xs n missing plane count r
+  pub fewer : Stopped xs n plane count r
   pub plane′ : ℕ
   pub count′ : ℕ
-  pub more : Stopped d L xs n still plane′ count′ s
+  pub more : Stopped xs n plane′ count′ s
   pub settles : (i : ℕ) → unsettled plane′ count′ i ≤ unsettled plane count i
 
-finished : (d L p : ℕ) (ys : List ℤ) (t : Tape) {zs : List ℤ} {l : List Bool} → walkPlane Decoder d L p ys t ≡ (zs, tape l false)
+pub plane-finished : (d L p : ℕ) (ys : List ℤ) (t : Tape) {zs : List ℤ} {l : List Bool} → walkPlane Decoder d L p ys t ≡ (zs, tape l false)
     → walkPlanes Decoder d L (suc p) ys t ≡ walkPlanes Decoder d L p zs (tape l false)
 unfolding walkPlanes
-finished d L p ys t h = ap (λ r. (elim (r .1 .missed) as (λ _. (Tape → (List ℤ × ℕ) × Tape)) [ true ↦ Decoder .done (r .0, suc p) | false ↦ walkPlanes Decoder d L p (r .0) ]) (r .1)) h
+plane-finished d L p ys t h = ap (λ r. (elim (r .1 .missed) as (λ _. (Tape → (List ℤ × ℕ) × Tape)) [ true ↦ Decoder .done (r .0, suc p) | false ↦ walkPlanes Decoder d L p (r .0) ]) (r .1)) h
 
-stopped : (d L p : ℕ) (ys : List ℤ) (t : Tape) {zs : List ℤ} {l : List Bool} → walkPlane Decoder d L p ys t ≡ (zs, tape l true)
+pub plane-stopped : (d L p : ℕ) (ys : List ℤ) (t : Tape) {zs : List ℤ} {l : List Bool} → walkPlane Decoder d L p ys t ≡ (zs, tape l true)
     → walkPlanes Decoder d L (suc p) ys t ≡ ((zs, suc p), tape l true)
 unfolding walkPlanes
-stopped d L p ys t h = ap (λ r. (elim (r .1 .missed) as (λ _. (Tape → (List ℤ × ℕ) × Tape)) [ true ↦ Decoder .done (r .0, suc p) | false ↦ walkPlanes Decoder d L p (r .0) ]) (r .1)) h
+plane-stopped d L p ys t h = ap (λ r. (elim (r .1 .missed) as (λ _. (Tape → (List ℤ × ℕ) × Tape)) [ true ↦ Decoder .done (r .0, suc p) | false ↦ walkPlanes Decoder d L p (r .0) ]) (r .1)) h
 
 module _ (d L : ℕ) (xs : List ℤ) (h : Closes d L (drop (4 ^ suc d) xs)) where
   abbrev code : ℕ → List Bool
@@ -101,35 +99,21 @@ module _ (d L : ℕ) (xs : List ℤ) (h : Closes d L (drop (4 ^ suc d) xs)) wher
   code-step p = ap (λ z. planeCode p ++ (walkPlanes Coder d L p z) .1) (plane-held p)
 
   past : (p : ℕ) (l l′ : List Bool) → l ≡ planeCode p ++ l′ → run (suc p) l ≡ run p l′
-  past p l l′ e = finished d L p _ _ (ap (λ l. walkPlane Decoder d L p (map (cleared (suc p)) xs) (tape l false)) e ∙ together-plane p d L xs h .full l′)
+  past p l l′ e = plane-finished d L p _ _ (ap (λ l. walkPlane Decoder d L p (map (cleared (suc p)) xs) (tape l false)) e ∙ together-plane p d L xs h .full l′)
 
   pub run-whole : (n : ℕ) (r : List Bool) → run n (code n ++ r) ≡ ((map (cleared 0) xs, 0), tape r false)
   run-whole zero r = unfold walkPlanes in refl
   run-whole (suc p) r = past p _ (code p ++ r) (ap (λ l. l ++ r) (code-step p) ∙ append-assoc (planeCode p) (code p) r) ∙ run-whole p r
 
-  stopped-in : (p w : ℕ) (l : List Bool) (j : ℕ) → length (code p) < w → w ≤ length (planeCode p) + length (code p)
-      → Stops p xs j (walkPlane Decoder d L p (map (cleared (suc p)) xs) (tape l false)) → Stopped d L xs (suc p) w p j (run (suc p) l)
-  stopped-in p w l j g k S = record {
-    under = omega arith;
-    after = g;
-    before = omega (arith, ap length (code-step p), length-append (planeCode p) (code p));
-    is = stopped d L p _ _ (S .1);
-  }
+  stopped-in : (p : ℕ) (l : List Bool) (j : ℕ) → Stops p xs j (walkPlane Decoder d L p (map (cleared (suc p)) xs) (tape l false)) → Stopped xs (suc p) p j (run (suc p) l)
+  stopped-in p l j S = record { under = omega arith; is = plane-stopped d L p _ _ (S .1) }
 
-  stopped-below : (p w : ℕ) (l l′ : List Bool) {u j : ℕ} → l ≡ planeCode p ++ l′ → Stopped d L xs p w u j (run p l′) → Stopped d L xs (suc p) w u j (run (suc p) l)
-  stopped-below p w l l′ e S = record { under = omega (arith, S .under); after = S .after; before = S .before; is = past p l l′ e ∙ S .is }
+  stopped-below : (p : ℕ) (l l′ : List Bool) {u j : ℕ} → l ≡ planeCode p ++ l′ → Stopped xs p u j (run p l′) → Stopped xs (suc p) u j (run (suc p) l)
+  stopped-below p l l′ e S = record { under = omega (arith, S .under); is = past p l l′ e ∙ S .is }
 
-  -- how many bits of B ++ C are missing behind a first part of B
-  missing-after : (l k : List Bool) (b : Bool) (m B C : List Bool) (w : List Bool) → (l ++ k) ++ b ∷ m ≡ B → l ++ w ≡ B ++ C → (length C < length w) × (length w ≤ length B + length C)
-  missing-after l k b m B C w e f =
-      let x : length l + length k + suc (length m) ≡ length B = sym (length-append (l ++ k) (b ∷ m) ∙ ap (λ n. n + suc (length m)) (length-append l k)) ∙ ap length e in
-      let y : length l + length w ≡ length B + length C = sym (length-append l w) ∙ ap length f ∙ length-append B C in
-      (omega arith, omega arith)
-
-  pub run-part : (n : ℕ) (l k : List Bool) (b : Bool) (m : List Bool) → (l ++ k) ++ b ∷ m ≡ code n
-      → Further d L xs n (length (k ++ b ∷ m)) (length (b ∷ m)) (run n l) (run n (l ++ k))
+  pub run-part : (n : ℕ) (l k : List Bool) (b : Bool) (m : List Bool) → (l ++ k) ++ b ∷ m ≡ code n → Further xs n (run n l) (run n (l ++ k))
   run-part zero l k b m e = absurd (nothing-after (l ++ k) b m (e ∙ (unfold walkPlanes in refl)))
-  run-part (suc p) l k b m e = go (parted B C (l ++ k) (b ∷ m) whole) (λ l′ k′. run-part p l′ k′ b m)
+  run-part (suc p) l k b m e = go (parted B C (l ++ k) (b ∷ m) (e ∙ code-step p)) (λ l′ k′. run-part p l′ k′ b m)
     where
       B : List Bool
       B = planeCode p
@@ -137,21 +121,17 @@ module _ (d L : ℕ) (xs : List ℤ) (h : Closes d L (drop (4 ^ suc d) xs)) wher
       C : List Bool
       C = code p
 
-      whole : (l ++ k) ++ b ∷ m ≡ B ++ C
-      whole = e ∙ code-step p
-
       G : Together p xs (walkPlane Coder d L p xs) (walkPlane Decoder d L p (map (cleared (suc p)) xs))
       G = together-plane p d L xs h
 
       Goal : Type 0
-      Goal = Further d L xs (suc p) (length (k ++ b ∷ m)) (length (b ∷ m)) (run (suc p) l) (run (suc p) (l ++ k))
+      Goal = Further xs (suc p) (run (suc p) l) (run (suc p) (l ++ k))
 
       Below : Type 0
-      Below = (l′ k′ : List Bool) → (l′ ++ k′) ++ b ∷ m ≡ C → Further d L xs p (length (k′ ++ b ∷ m)) (length (b ∷ m)) (run p l′) (run p (l′ ++ k′))
+      Below = (l′ k′ : List Bool) → (l′ ++ k′) ++ b ∷ m ≡ C → Further xs p (run p l′) (run p (l′ ++ k′))
 
       on : (g : Goes (l ++ k) (b ∷ m) B C) → Ends l B ⊎ Goes l k B (g .0) → Below → Goal
       on g (inl i) ih =
-          let w = missing-after l [] (i .0) (i .1) B C (k ++ b ∷ m) (ap (λ l. l ++ i .0 ∷ i .1) (append-nil l) ∙ i .2) (sym (append-assoc l k (b ∷ m)) ∙ whole) in
           let P = G .part l [] (i .0) (i .1) (ap (λ l. l ++ i .0 ∷ i .1) (append-nil l) ∙ i .2) in
           let Q = ih (g .0) [] (ap (λ l. l ++ b ∷ m) (append-nil (g .0)) ∙ g .2) in
           record {
@@ -159,8 +139,8 @@ module _ (d L : ℕ) (xs : List ℤ) (h : Closes d L (drop (4 ^ suc d) xs)) wher
             count = P .j;
             plane′ = Q .plane;
             count′ = Q .count;
-            fewer = stopped-in p (length (k ++ b ∷ m)) l (P .j) (w .0) (w .1) (P .fewer);
-            more = stopped-below p (length (b ∷ m)) (l ++ k) (g .0) (g .1) (Q .fewer);
+            fewer = stopped-in p l (P .j) (P .fewer);
+            more = stopped-below p (l ++ k) (g .0) (g .1) (Q .fewer);
             settles = λ n. omega (arith, unsettled-most (Q .plane) (Q .count) n, unsettled-least p (P .j) n, Q .fewer .under);
           }
       on g (inr i) ih =
@@ -170,23 +150,21 @@ module _ (d L : ℕ) (xs : List ℤ) (h : Closes d L (drop (4 ^ suc d) xs)) wher
             count = Q .count;
             plane′ = Q .plane′;
             count′ = Q .count′;
-            fewer = stopped-below p (length (k ++ b ∷ m)) l (i .0) (i .1) (Q .fewer);
-            more = stopped-below p (length (b ∷ m)) (l ++ k) (i .0 ++ k) (g .1 ∙ ap (λ l. B ++ l) (sym (i .2))) (Q .more);
+            fewer = stopped-below p l (i .0) (i .1) (Q .fewer);
+            more = stopped-below p (l ++ k) (i .0 ++ k) (g .1 ∙ ap (λ l. B ++ l) (sym (i .2))) (Q .more);
             settles = Q .settles;
           }
 
       go : Ends (l ++ k) B ⊎ Goes (l ++ k) (b ∷ m) B C → Below → Goal
       go (inl i) ih =
-          let w = missing-after (l ++ k) [] (i .0) (i .1) B C (b ∷ m) (ap (λ l. l ++ i .0 ∷ i .1) (append-nil (l ++ k)) ∙ i .2) whole in
-          let v = missing-after l k (i .0) (i .1) B C (k ++ b ∷ m) (i .2) (sym (append-assoc l k (b ∷ m)) ∙ whole) in
           let Q = G .part l k (i .0) (i .1) (i .2) in
           record {
             plane = p;
             count = Q .j;
             plane′ = p;
             count′ = Q .i;
-            fewer = stopped-in p (length (k ++ b ∷ m)) l (Q .j) (v .0) (v .1) (Q .fewer);
-            more = stopped-in p (length (b ∷ m)) (l ++ k) (Q .i) (w .0) (w .1) (Q .more);
+            fewer = stopped-in p l (Q .j) (Q .fewer);
+            more = stopped-in p (l ++ k) (Q .i) (Q .more);
             settles = λ n. unsettled-mono p (Q .j) (Q .i) n (Q .grows);
           }
       go (inr g) ih = on g (parted B (g .0) l k (g .1)) ih

@@ -3,15 +3,15 @@
 use mathlib.Core.Path.{_≡_, refl, sym, ap, _∙_}
 use mathlib.Core.Bool.{Bool, true, false}
 use mathlib.Core.Option.{Option, none, some}
-use mathlib.Core.List.{List, [], _∷_, _++_, append-nil}
+use mathlib.Core.List.{List, [], _∷_, _++_, append-assoc}
 use Prim.Native.Nat.{ℕ, zero, suc, _+_, _*_, _-_, _^_, _<_, _≤_}
 use native.Mathlib.Nat.{suc-mul, mul-le-mul-right, pow-le-pow-right}
 use native.Mathlib.Omega.{arith}
 use lib.Dec.{leb}
 use borrow.Author.Tests.{leb-true, leb-false}
 use lib.IntN.{ℤ, pos, natAbs}
-use lib.ListN.{length, take, drop, replicate, length-take, length-drop, length-append, length-replicate, take-append-drop}
-use lib.Seq.{drop-drop, take-all}
+use lib.ListN.{length, take, drop, replicate, length-take, length-append, length-replicate, take-append-drop}
+use lib.Seq.{take-all}
 use Rattle.paper.specs.Sizes.{mostSize, mostPlanes}
 use Rattle.paper.specs.Walk.{reaches, Decoder, Tape, nextBit, isOne, testSet, refined, begun, walkNumber, walkNumbers, walkSet, walkRest, walkPlane, walkPlanes, depth, decodeOf, Settled, _next_}
 use Rattle.walk_laws.specs.Asks.{behind, test-known, test-asks, number-known, number-asks, afterBit, opened}
@@ -20,35 +20,51 @@ use Rattle.walk_laws.specs.Bound.{setTests, restTests, set-tests, rest-t
 
 -- ---- a walk and its tape
 -- P says what is known of the answer, by whether a bit was missed.
--- Enough: c of the bits l are read, c at most K, and bits behind them change nothing.
-record Enough {A : Type 0} (P : Bool → A → Type 0) (K : ℕ) (f : Decodes A) (l : List Bool) : Type 0 where
-  answer : A
-  known : P false answer
-  c : ℕ
-  few : c ≤ K
-  there : c ≤ length l
-  is : (r : List Bool) → f (tape (l ++ r) false) ≡ (answer, tape (drop c l ++ r) false)
+-- Enough: a first part of the bits l is taken, of at most K bits, and what stands behind that part is left as it is.
+pub record Enough {A : Type 0} (P : Bool → A → Type 0) (K : ℕ) (f : Decodes A) (l : List Bool) : Type 0 where
+  pub answer : A
+  pub known : P false answer
+  pub taken : List Bool
+  pub rest : List Bool
+  pub parts : l ≡ taken ++ rest
+  pub few : length taken ≤ K
+  pub is : (r : List Bool) → f (tape (taken ++ r) false) ≡ (answer, tape r false)
 
 -- Missed: all of t is read, and a bit is missed.
-record Missed {A : Type 0} (P : Bool → A → Type 0) (f : Decodes A) (t : Tape) : Type 0 where
-  answer : A
-  known : P true answer
-  is : f t ≡ (answer, tape [] true)
+pub record Missed {A : Type 0} (P : Bool → A → Type 0) (f : Decodes A) (t : Tape) : Type 0 where
+  pub answer : A
+  pub known : P true answer
+  pub is : f t ≡ (answer, tape [] true)
 
-data Outcome {A : Type 0} (P : Bool → A → Type 0) (K : ℕ) (f : Decodes A) (l : List Bool) : Type 0 where
+pub data Outcome {A : Type 0} (P : Bool → A → Type 0) (K : ℕ) (f : Decodes A) (l : List Bool) : Type 0 where
   enough : Enough P K f l → Outcome P K f l
   short : length l < K → Missed P f (tape l false) → Outcome P K f l
 
 -- any bits, and a tape on which one has been missed
-record Reads {A : Type 0} (P : Bool → A → Type 0) (K : ℕ) (f : Decodes A) : Type 0 where
-  from : (l : List Bool) → Outcome P K f l
-  over : Missed P f (tape [] true)
+pub record Reads {A : Type 0} (P : Bool → A → Type 0) (K : ℕ) (f : Decodes A) : Type 0 where
+  pub from : (l : List Bool) → Outcome P K f l
+  pub over : Missed P f (tape [] true)
+
+pub enough-is : {A : Type 0} {P : Bool → A → Type 0} {K : ℕ} {f : Decodes A} {l : List Bool} (E : Enough P K f l) → f (tape l false) ≡ (E .answer, tape (E .rest) false)
+enough-is {f = f} E = ap (λ m. f (tape m false)) (E .parts) ∙ E .is (E .rest)
+
+-- what is enough is enough with more behind it
+abbrev pub enough-more : {A : Type 0} {P : Bool → A → Type 0} {K : ℕ} {f : Decodes A} {l : List Bool} (r : List Bool) → Enough P K f l → Enough P K f (l ++ r)
+enough-more r E = record {
+  answer = E .answer;
+  known = E .known;
+  taken = E .taken;
+  rest = E .rest ++ r;
+  parts = ap (λ m. m ++ r) (E .parts) ∙ append-assoc (E .taken) (E .rest) r;
+  few = E .few;
+  is = E .is;
+}
 
 -- where P leaves nothing to choose
-abbrev Any : {A : Type 0} → Bool → A → Type 0
+abbrev pub Any : {A : Type 0} → Bool → A → Type 0
 Any m a = Unit {0}
 
-abbrev Length : ℕ → Bool → List ℤ → Type 0
+abbrev pub Length : ℕ → Bool → List ℤ → Type 0
 Length n m zs = length zs ≡ n
 
 module _ {A B : Type 0} {P : Bool → A → Type 0} {Q : Bool → B → Type 0} {K J : ℕ} {f : Decodes A} (g : A → Decodes B) (F : Reads P K f)
@@ -59,41 +75,41 @@ module _ {A B : Type 0} {P : Bool → A → Type 0} {Q : Bool → B → Type 0} 
   reads-then : Reads Q (K + J) (λ t. g ((f t) .0) ((f t) .1))
   reads-then = record { from = λ l. go l (F .from l); over = then-missed (F .over) }
     where
-      on : (l : List Bool) (E : Enough P K f l) → Outcome Q J (g (E .answer)) (drop (E .c) l) → Outcome Q (K + J) (λ t. g ((f t) .0) ((f t) .1)) l
+      on : (l : List Bool) (E : Enough P K f l) → Outcome Q J (g (E .answer)) (E .rest) → Outcome Q (K + J) (λ t. g ((f t) .0) ((f t) .1)) l
       on l E (enough D) = enough (record {
         answer = D .answer;
         known = D .known;
-        c = E .c + D .c;
-        few = omega (arith, E .few, D .few);
-        there = omega (arith, E .there, D .there, length-drop (E .c) l);
-        is = λ r. ap (λ s. g (s .0) (s .1)) (E .is r) ∙ D .is r ∙ ap (λ m. (D .answer, tape (m ++ r) false)) (drop-drop (D .c) (E .c) l);
+        taken = E .taken ++ D .taken;
+        rest = D .rest;
+        parts = E .parts ∙ ap (λ m. E .taken ++ m) (D .parts) ∙ sym (append-assoc (E .taken) (D .taken) (D .rest));
+        few = omega (arith, E .few, D .few, length-append (E .taken) (D .taken));
+        is = λ r. rw append-assoc (ap (λ s. g (s .0) (s .1)) (E .is (D .taken ++ r)) ∙ D .is r);
       })
-      on l E (short h M) = short (omega (arith, h, E .few, E .there, length-drop (E .c) l)) (record {
+      on l E (short h M) = short (omega (arith, h, E .few, ap length (E .parts), length-append (E .taken) (E .rest))) (record {
         answer = M .answer;
         known = M .known;
-        is = ap (λ m. g ((f (tape m false)) .0) ((f (tape m false)) .1)) (sym (append-nil l)) ∙ ap (λ s. g (s .0) (s .1)) (E .is [])
-            ∙ ap (λ m. g (E .answer) (tape m false)) (append-nil (drop (E .c) l)) ∙ M .is;
+        is = ap (λ s. g (s .0) (s .1)) (enough-is E) ∙ M .is;
       })
 
       go : (l : List Bool) → Outcome P K f l → Outcome Q (K + J) (λ t. g ((f t) .0) ((f t) .1)) l
-      go l (enough E) = on l E (G (E .answer) (E .known) (drop (E .c) l))
+      go l (enough E) = on l E (G (E .answer) (E .known) (E .rest))
       go l (short h M) = short (omega arith) (then-missed M)
 
 -- one walk, then another that reads at most J bits whatever the first says
-reads-both : {A B : Type 0} {P : Bool → A → Type 0} {Q : Bool → B → Type 0} {K J : ℕ} {f : Decodes A} (g : A → Decodes B) → Reads P K f
+pub reads-both : {A B : Type 0} {P : Bool → A → Type 0} {Q : Bool → B → Type 0} {K J : ℕ} {f : Decodes A} (g : A → Decodes B) → Reads P K f
     → ((m : Bool) (a : A) → P m a → Reads Q J (g a)) → Reads Q (K + J) (λ t. g ((f t) .0) ((f t) .1))
 reads-both g F G = reads-then g F (λ a p. G false a p .from) (λ a p. G true a p .over)
 
-reads-more : {A : Type 0} {P : Bool → A → Type 0} {K : ℕ} {f : Decodes A} (J : ℕ) → K ≤ J → Reads P K f → Reads P J f
+pub reads-more : {A : Type 0} {P : Bool → A → Type 0} {K : ℕ} {f : Decodes A} (J : ℕ) → K ≤ J → Reads P K f → Reads P J f
 reads-more {A} {P} {K} {f} J h F = record { from = λ l. go l (F .from l); over = F .over }
   where
     go : (l : List Bool) → Outcome P K f l → Outcome P J f l
-    go l (enough E) = enough (record { answer = E .answer; known = E .known; c = E .c; few = omega (arith, E .few); there = E .there; is = E .is })
+    go l (enough E) = enough (record { answer = E .answer; known = E .known; taken = E .taken; rest = E .rest; parts = E .parts; few = omega (arith, E .few); is = E .is })
     go l (short g M) = short (omega arith) M
 
-reads-done : {A : Type 0} {P : Bool → A → Type 0} (a : A) → ((m : Bool) → P m a) → Reads P 0 (λ t. (a, t))
+pub reads-done : {A : Type 0} {P : Bool → A → Type 0} (a : A) → ((m : Bool) → P m a) → Reads P 0 (λ t. (a, t))
 reads-done a p = record {
-  from = λ l. enough (record { answer = a; known = p false; c = 0; few = omega arith; there = omega arith; is = λ r. refl });
+  from = λ l. enough (record { answer = a; known = p false; taken = []; rest = l; parts = refl; few = omega arith; is = λ r. refl });
   over = record { answer = a; known = p true; is = refl };
 }
 
@@ -102,7 +118,7 @@ reads-bit = record { from = go; over = record { answer = none; known = tt; is = 
   where
     go : (l : List Bool) → Outcome {A = Option Bool} Any 1 (λ t. nextBit (t .left) (t .missed)) l
     go [] = short (omega arith) (record { answer = none; known = tt; is = refl })
-    go (b ∷ l) = enough (record { answer = some b; known = tt; c = 1; few = omega arith; there = omega arith; is = λ r. refl })
+    go (b ∷ l) = enough (record { answer = some b; known = tt; taken = b ∷ []; rest = l; parts = refl; few = omega arith; is = λ r. refl })
 
 -- ---- one plane
 reads-test : (p : ℕ) (xs : List ℤ) → Reads {A = Bool} Any 1 (testSet Decoder p xs)
@@ -137,8 +153,8 @@ reads-numbers p [] = reads-done {P = Length 0} [] (λ _. refl)
 reads-numbers p (x ∷ xs) = reads-more (2 * length (x ∷ xs)) (omega arith) (reads-next (length (x ∷ xs)) (omega arith) (reads-number p x) (reads-numbers p xs))
 
 -- as many numbers come back as xs has, for at most K tests and two bits a number
-record Walks (K : ℕ) (xs : List ℤ) (f : Decodes (List ℤ)) : Type 0 where
-  reads : Reads (Length (length xs)) (K + 2 * length xs) f
+pub record Walks (K : ℕ) (xs : List ℤ) (f : Decodes (List ℤ)) : Type 0 where
+  pub reads : Reads (Length (length xs)) (K + 2 * length xs) f
 
 walks-done : (K : ℕ) (xs : List ℤ) → Walks K xs (λ t. (xs, t))
 walks-done K xs = record { reads = reads-more (K + 2 * length xs) (omega arith) (reads-done {P = Length (length xs)} xs (λ _. refl)) }
@@ -170,7 +186,7 @@ unfolding walkRest restTests
 walks-rest p d zero xs = walks-done 0 xs
 walks-rest p d (suc left) xs = walks-tested p xs _ (walks-three (4 ^ suc d) xs (walkSet Decoder p d) (walks-set p d) (walks-rest p (suc d) left _))
 
-walks-plane : (d L p : ℕ) (xs : List ℤ) → Walks (setTests d + restTests d L) xs (walkPlane Decoder d L p xs)
+pub walks-plane : (d L p : ℕ) (xs : List ℤ) → Walks (setTests d + restTests d L) xs (walkPlane Decoder d L p xs)
 unfolding walkPlane
 walks-plane d L p xs = walks-split (4 ^ suc d) xs (walks-set p d (take (4 ^ suc d) xs)) (walks-rest p d L (drop (4 ^ suc d) xs))
 
@@ -182,7 +198,7 @@ record Counted (N : ℕ) (m : Bool) (v : List ℤ × ℕ) : Type 0 where
   some-left : m ≡ true → 0 < v .1
 
 -- the most bits of one plane of N numbers
-abbrev planeMost : ℕ → ℕ → ℕ → ℕ
+abbrev pub planeMost : ℕ → ℕ → ℕ → ℕ
 planeMost d L N = setTests d + restTests d L + 2 * N
 
 module _ (d L N : ℕ) where
@@ -195,9 +211,10 @@ module _ (d L N : ℕ) where
   reads-planes zero xs h l = enough (record {
     answer = (xs, 0);
     known = record { numbers = h; none-left = λ _. refl; some-left = λ e. absurd (let z : _≡_ {A = ℕ} 0 1 = cc in omega arith) };
-    c = 0;
+    taken = [];
+    rest = l;
+    parts = refl;
     few = omega arith;
-    there = omega arith;
     is = λ r. refl;
   })
   reads-planes (suc p) xs h l = more (reads-then {J = p * planeMost d L N} (then-plane p) (walks-plane d L p xs .reads) (λ ys k. below ys (reads-planes p ys (k ∙ h))) stops .from l)
@@ -206,7 +223,7 @@ module _ (d L N : ℕ) where
       below ys ih l = go (ih l)
         where
           go : Outcome (Counted N) (p * planeMost d L N) (walkPlanes Decoder d L p ys) l → Outcome (Counted N) (p * planeMost d L N) (then-plane p ys) l
-          go (enough E) = enough (record { answer = E .answer; known = E .known; c = E .c; few = E .few; there = E .there; is = E .is })
+          go (enough E) = enough (record { answer = E .answer; known = E .known; taken = E .taken; rest = E .rest; parts = E .parts; few = E .few; is = E .is })
           go (short g M) = short g (record { answer = M .answer; known = M .known; is = M .is })
 
       stops : (ys : List ℤ) → length ys ≡ length xs → Missed (Counted N) (then-plane p ys) (tape [] true)
@@ -220,6 +237,10 @@ module _ (d L N : ℕ) where
       more O = rw (let e : suc p * planeMost d L N ≡ setTests d + restTests d L + 2 * length xs + p * planeMost d L N = omega (arith, suc-mul p (planeMost d L N)) in e) O
 
 -- ---- decoding
+-- the most bits that decoding can read
+abbrev pub mostRead : ℕ → ℕ → ℕ → ℕ
+mostRead k L n = n * planeMost (depth k L) L (4 ^ k)
+
 module _ (k L n : ℕ) where
   abbrev d : ℕ
   d = depth k L
@@ -228,7 +249,7 @@ module _ (k L n : ℕ) where
   start = replicate (4 ^ k) (pos 0)
 
   abbrev most : ℕ
-  most = n * planeMost d L (4 ^ k)
+  most = mostRead k L n
 
   outcome : (l : List Bool) → Outcome (Counted (4 ^ k)) most (walkPlanes Decoder d L n start) l
   outcome l = reads-planes d L (4 ^ k) n start (length-replicate (4 ^ k) (pos 0)) l
@@ -238,22 +259,18 @@ module _ (k L n : ℕ) where
   unfolding decodeOf
   decoded-as l e = ap {B = Settled} (λ r. record { numbers = r .0 .0; unfinished = r .0 .1; read = length l - length (r .1 .left) }) e
 
-  -- what enough bits decode to, whatever stands behind them
-  decoded-enough : (l r : List Bool) (E : Enough (Counted (4 ^ k)) most (walkPlanes Decoder d L n start) l) → decodeOf k L n (l ++ r) ≡ record { numbers = E .answer .0; unfinished = E .answer .1; read = E .c }
-  decoded-enough l r E =
-      decoded-as (l ++ r) (E .is r)
+  decoded-enough : (l : List Bool) (E : Enough (Counted (4 ^ k)) most (walkPlanes Decoder d L n start) l) → decodeOf k L n l ≡ record { numbers = E .answer .0; unfinished = E .answer .1; read = length (E .taken) }
+  decoded-enough l E =
+      decoded-as l (enough-is E)
       ∙ ap {B = Settled} (λ j. record { numbers = E .answer .0; unfinished = E .answer .1; read = j })
-      (let e : length (l ++ r) - length (drop (E .c) l ++ r) ≡ E .c = omega (arith, length-append l r, length-append (drop (E .c) l) r, length-drop (E .c) l, E .there) in e)
-
-  alone : (l : List Bool) (E : Enough (Counted (4 ^ k)) most (walkPlanes Decoder d L n start) l) → decodeOf k L n l ≡ record { numbers = E .answer .0; unfinished = E .answer .1; read = E .c }
-  alone l E = ap (decodeOf k L n) (sym (append-nil l)) ∙ decoded-enough l [] E
+      (let e : length l - length (E .rest) ≡ length (E .taken) = omega (arith, ap length (E .parts), length-append (E .taken) (E .rest)) in e)
 
   -- All S² numbers are written.
   pub places : (l : List Bool) → length ((decodeOf k L n l) .numbers) ≡ 4 ^ k
   places l = go (outcome l)
     where
       go : Outcome (Counted (4 ^ k)) most (walkPlanes Decoder d L n start) l → length ((decodeOf k L n l) .numbers) ≡ 4 ^ k
-      go (enough E) = rw (alone l E) (E .known .numbers)
+      go (enough E) = rw (decoded-enough l E) (E .known .numbers)
       go (short h M) = rw (decoded-as l (M .is)) (M .known .numbers)
 
   -- No more bits are read than there are.
@@ -266,7 +283,7 @@ module _ (k L n : ℕ) where
   read-all l = go (outcome l)
     where
       go : Outcome (Counted (4 ^ k)) most (walkPlanes Decoder d L n start) l → 0 < (decodeOf k L n l) .unfinished → (decodeOf k L n l) .read ≡ length l
-      go (enough E) h = absurd (omega (arith, E .known .none-left refl, ap (λ (s : Settled). s .unfinished) (alone l E)))
+      go (enough E) h = absurd (omega (arith, E .known .none-left refl, ap (λ (s : Settled). s .unfinished) (decoded-enough l E)))
       go (short g M) h = rw (decoded-as l (M .is)) (omega arith)
 
   -- No bit is read after plane 0 is complete: bits behind it change nothing.
@@ -274,7 +291,7 @@ module _ (k L n : ℕ) where
   read-none l r = go (outcome l)
     where
       go : Outcome (Counted (4 ^ k)) most (walkPlanes Decoder d L n start) l → (decodeOf k L n l) .unfinished ≡ 0 → decodeOf k L n (l ++ r) ≡ decodeOf k L n l
-      go (enough E) h = decoded-enough l r E ∙ sym (alone l E)
+      go (enough E) h = decoded-enough (l ++ r) (enough-more r E) ∙ sym (decoded-enough l E)
       go (short g M) h = absurd (omega (arith, M .known .some-left refl, ap (λ (s : Settled). s .unfinished) (decoded-as l (M .is))))
 
   -- bits beyond the most that can be read change nothing
@@ -286,7 +303,7 @@ module _ (k L n : ℕ) where
       go false e = on (outcome (take K l))
         where
           on : Outcome (Counted (4 ^ k)) most (walkPlanes Decoder d L n start) (take K l) → decodeOf k L n l ≡ decodeOf k L n (take K l)
-          on (enough E) = ap (decodeOf k L n) (sym (take-append-drop K l)) ∙ decoded-enough (take K l) (drop K l) E ∙ sym (alone (take K l) E)
+          on (enough E) = ap (decodeOf k L n) (sym (take-append-drop K l)) ∙ decoded-enough (take K l ++ drop K l) (enough-more (drop K l) E) ∙ sym (decoded-enough (take K l) E)
           on (short g M) = absurd (omega (arith, g, h, length-take K l, leb-false (length l) K e))
 
 -- more bits than any decoding reads

@@ -1,0 +1,247 @@
+-- The true p, of any bits at all: unfinished planes are n less the planes whose every bit has been read. What it is that
+-- every bit of a plane has been read is said of the bits and not of the decoder's flag.
+use mathlib.Core.Path.{_≡_, refl, sym, ap, _∙_}
+use mathlib.Core.Bool.{Bool, true, false}
+use mathlib.Core.List.{List, _++_}
+use Prim.Native.Nat.{ℕ, zero, suc, _+_, _*_, _-_, _^_, _<_, _≤_}
+use native.Mathlib.Nat.{suc-mul}
+use native.Mathlib.Omega.{arith}
+use lib.Dec.{leb, ltb}
+use borrow.Author.Tests.{leb-true, leb-false, le-leb, lt-leb, ltb-true, ltb-false, lt-ltb, le-ltb}
+use lib.IntN.{ℤ, pos}
+use lib.ListN.{length, take, drop, replicate, length-take, length-append, length-replicate, take-append-drop}
+use lib.Seq.{take-at, take-append-add, drop-append-seam}
+use Rattle.paper.specs.Walk.{Decoder, Tape, walkPlane, walkPlanes, depth, decodeOf}
+use Rattle.walk_laws.specs.Together.{tape, Decodes}
+use Rattle.walk_laws.specs.Bound.{setTests, restTests}
+use Rattle.walk_laws.specs.Planes.{plane-finished, plane-stopped}
+use Rattle.walk_laws.specs.Read.{enough-is, enough-more, Enough, Missed, Outcome, enough, short, Reads, Length, reads-both, reads-more, reads-done, planeMost, mostRead, walks-plane}
+
+-- ---- planes n - 1 down to q
+-- one plane after the other, whatever the bits
+unfoldable pub walkDown : ℕ → ℕ → ℕ → ℕ → List ℤ → Decodes (List ℤ)
+walkDown d L q zero xs = Decoder .done xs
+walkDown d L q (suc p) xs = elim (leb q p) [ true ↦ Decoder .then (walkPlane Decoder d L p xs) (walkDown d L q p) | false ↦ Decoder .done xs ]
+
+-- the numbers that they make of bits l, and the bits that they leave
+unfoldable pub planesOver : ℕ → ℕ → ℕ → ℕ → List Bool → List ℤ × List Bool
+planesOver k L n q l = let r = walkDown (depth k L) L q n (replicate (4 ^ k) (pos 0)) (tape l false) in (r .0, r .1 .left)
+
+-- Every bit of these planes has been read from l: of bits that stand behind l they take none.
+abbrev pub AllRead : ℕ → ℕ → ℕ → ℕ → List Bool → Type 0
+AllRead k L n q l = (r : List Bool) → (planesOver k L n q (l ++ r)) .1 ≡ (planesOver k L n q l) .1 ++ r
+
+-- how many bits they take of bits m that have every bit of theirs
+unfoldable pub bitsThrough : ℕ → ℕ → ℕ → ℕ → List Bool → ℕ
+bitsThrough k L n q m = length m - length ((planesOver k L n q m) .1)
+
+-- for how many numbers below n a test holds
+unfoldable pub countBelow : ℕ → (ℕ → Bool) → ℕ
+countBelow zero f = 0
+countBelow (suc n) f = elim (f n) [ true ↦ suc (countBelow n f) | false ↦ countBelow n f ]
+
+-- the planes, of n, whose every bit is among the first b of the bits m
+abbrev pub planesRead : ℕ → ℕ → ℕ → List Bool → ℕ → ℕ
+planesRead k L n m b = countBelow n (λ q. leb (bitsThrough k L n q m) b)
+
+count-from : (p n : ℕ) → countBelow n (leb p) ≡ n - p
+unfolding countBelow
+count-from p zero = omega arith
+count-from p (suc n) = go (leb p n) refl (count-from p n)
+  where
+    go : (b : Bool) → leb p n ≡ b → countBelow n (leb p) ≡ n - p → _≡_ {A = ℕ} (elim b [ true ↦ suc (countBelow n (leb p)) | false ↦ countBelow n (leb p) ]) (suc n - p)
+    go true e ih = omega (arith, leb-true p n e)
+    go false e ih = omega (arith, leb-false p n e)
+
+-- ---- the walk and the count
+count-most : (d L n : ℕ) (xs : List ℤ) (t : Tape) → (walkPlanes Decoder d L n xs t) .0 .1 ≤ n
+unfolding walkPlanes
+count-most d L zero xs t = omega arith
+count-most d L (suc p) xs t = go ((walkPlane Decoder d L p xs t) .1 .missed) (count-most d L p)
+  where
+    go : (m : Bool) → ((ys : List ℤ) (t : Tape) → (walkPlanes Decoder d L p ys t) .0 .1 ≤ p)
+        → ((elim m as (λ _. Decodes (List ℤ × ℕ)) [ true ↦ Decoder .done ((walkPlane Decoder d L p xs t) .0, suc p) | false ↦ walkPlanes Decoder d L p ((walkPlane Decoder d L p xs t) .0) ]) ((walkPlane Decoder d L p xs t) .1)) .0 .1 ≤ suc p
+    go true ih = omega arith
+    go false ih = omega (arith, ih ((walkPlane Decoder d L p xs t) .0) ((walkPlane Decoder d L p xs t) .1))
+
+module _ (d L q p : ℕ) (xs : List ℤ) where
+  pub down-step : leb q p ≡ true → walkDown d L q (suc p) xs ≡ Decoder .then (walkPlane Decoder d L p xs) (walkDown d L q p)
+  unfolding walkDown
+  down-step e = rw (e, walkDown)
+
+  pub down-ends : leb q p ≡ false → walkDown d L q (suc p) xs ≡ Decoder .done xs
+  unfolding walkDown
+  down-ends e = rw (e, walkDown)
+
+module _ (d L N : ℕ) where
+  reads-down : (q n : ℕ) (xs : List ℤ) → length xs ≡ N → Reads (Length N) (n * planeMost d L N) (walkDown d L q n xs)
+  reads-down q zero xs h = unfold walkDown in (reads-more (0 * planeMost d L N) (omega arith) (reads-done {P = Length N} xs (λ _. h)))
+  reads-down q (suc p) xs h = go (leb q p) refl (reads-down q p)
+    where
+      go : (b : Bool) → leb q p ≡ b → ((ys : List ℤ) → length ys ≡ N → Reads (Length N) (p * planeMost d L N) (walkDown d L q p ys)) → Reads (Length N) (suc p * planeMost d L N) (walkDown d L q (suc p) xs)
+      go true e ih =
+          rw (down-step d L q p xs e)
+          (reads-more (suc p * planeMost d L N) (omega (arith, suc-mul p (planeMost d L N))) (reads-both (walkDown d L q p) (walks-plane d L p xs .reads) (λ _ ys k. ih ys (k ∙ h))))
+      go false e ih = rw (down-ends d L q p xs e) (reads-more (suc p * planeMost d L N) (omega arith) (reads-done {P = Length N} xs (λ _. h)))
+
+  -- a bit is missed in planes n - 1 to q exactly if more than q planes are unfinished
+  missed-is : (q n : ℕ) (xs : List ℤ) → length xs ≡ N → (l : List Bool) → (walkDown d L q n xs (tape l false)) .1 .missed ≡ ltb q ((walkPlanes Decoder d L n xs (tape l false)) .0 .1)
+  missed-is q zero xs h l = unfold walkDown walkPlanes in (sym (le-ltb q 0 (omega arith)))
+  missed-is q (suc p) xs h l = go (leb q p) refl (walks-plane d L p xs .reads .from l) (missed-is q p)
+    where
+      go : (b : Bool) → leb q p ≡ b → Outcome (Length (length xs)) (setTests d + restTests d L + 2 * length xs) (walkPlane Decoder d L p xs) l
+          → ((ys : List ℤ) → length ys ≡ N → (l : List Bool) → (walkDown d L q p ys (tape l false)) .1 .missed ≡ ltb q ((walkPlanes Decoder d L p ys (tape l false)) .0 .1))
+          → (walkDown d L q (suc p) xs (tape l false)) .1 .missed ≡ ltb q ((walkPlanes Decoder d L (suc p) xs (tape l false)) .0 .1)
+      go true e (enough E) ih =
+          rw (down-step d L q p xs e, plane-finished d L p xs (tape l false) (enough-is E))
+          (ap (λ r. (walkDown d L q p (r .0) (r .1)) .1 .missed) (enough-is E) ∙ ih (E .answer) (E .known ∙ h) (E .rest))
+      go true e (short g M) ih =
+          rw (down-step d L q p xs e, plane-stopped d L p xs (tape l false) (M .is))
+          (ap (λ r. (walkDown d L q p (r .0) (r .1)) .1 .missed) (M .is) ∙ ap (λ r. r .1 .missed) (reads-down q p (M .answer) (M .known ∙ h) .over .is) ∙ sym (lt-ltb q (suc p) (omega (arith, leb-true q p e))))
+      go false e O ih = rw (down-ends d L q p xs e) (sym (le-ltb q _ (omega (arith, leb-false q p e, count-most d L (suc p) xs (tape l false)))))
+
+  -- where none is missed, planes q - 1 to 0 go on from there
+  goes-on : (q n : ℕ) (xs : List ℤ) → length xs ≡ N → (l : List Bool) → q ≤ n → (walkDown d L q n xs (tape l false)) .1 .missed ≡ false
+      → walkPlanes Decoder d L n xs (tape l false) ≡ (let r = walkDown d L q n xs (tape l false) in walkPlanes Decoder d L q (r .0) (r .1))
+  goes-on q zero xs h l g m = unfold walkDown in (λ i. walkPlanes Decoder d L (let e : 0 ≡ q = omega arith in e i) xs (tape l false))
+  goes-on q (suc p) xs h l g m = go (leb q p) refl (walks-plane d L p xs .reads .from l) (goes-on q p)
+    where
+      go : (b : Bool) → leb q p ≡ b → Outcome (Length (length xs)) (setTests d + restTests d L + 2 * length xs) (walkPlane Decoder d L p xs) l
+          → ((ys : List ℤ) → length ys ≡ N → (l : List Bool) → q ≤ p → (walkDown d L q p ys (tape l false)) .1 .missed ≡ false
+          → walkPlanes Decoder d L p ys (tape l false) ≡ (let r = walkDown d L q p ys (tape l false) in walkPlanes Decoder d L q (r .0) (r .1)))
+          → walkPlanes Decoder d L (suc p) xs (tape l false) ≡ (let r = walkDown d L q (suc p) xs (tape l false) in walkPlanes Decoder d L q (r .0) (r .1))
+      go true e (enough E) ih =
+          let s : walkDown d L q (suc p) xs (tape l false) ≡ walkDown d L q p (E .answer) (tape (E .rest) false) = ap (λ f. f (tape l false)) (down-step d L q p xs e) ∙ ap (λ r. walkDown d L q p (r .0) (r .1)) (enough-is E) in
+          rw (s, plane-finished d L p xs (tape l false) (enough-is E)) (ih (E .answer) (E .known ∙ h) (E .rest) (leb-true q p e) (rw s at m))
+      go true e (short g M) ih =
+          absurd (omega (arith, leb-true q p e, ltb-false q _ (sym (missed-is q (suc p) xs h l) ∙ m), ap (λ r. r .0 .1) (plane-stopped d L p xs (tape l false) (M .is))))
+      go false e O ih = rw (down-ends d L q p xs e) (λ i. walkPlanes Decoder d L (let f : suc p ≡ q = omega (arith, leb-false q p e) in f i) xs (tape l false))
+
+module _ (k L n : ℕ) where
+  abbrev start : List ℤ
+  start = replicate (4 ^ k) (pos 0)
+
+  -- the bits l have all that planes n - 1 to q take
+  abbrev Has : ℕ → List Bool → Type 0
+  Has q l = Enough (Length (4 ^ k)) (mostRead k L n) (walkDown (depth k L) L q n start) l
+
+  abbrev unfinished : List Bool → ℕ
+  unfinished l = (decodeOf k L n l) .unfinished
+
+  outcome : (q : ℕ) (l : List Bool) → Outcome (Length (4 ^ k)) (mostRead k L n) (walkDown (depth k L) L q n start) l
+  outcome q l = reads-down (depth k L) L (4 ^ k) q n start (length-replicate (4 ^ k) (pos 0)) .from l
+
+  missed-more : (q : ℕ) (l : List Bool) → (walkDown (depth k L) L q n start (tape l false)) .1 .missed ≡ ltb q (unfinished l)
+  unfolding decodeOf
+  missed-more q l = missed-is (depth k L) L (4 ^ k) q n start (length-replicate (4 ^ k) (pos 0)) l
+
+  has-finished : (q : ℕ) (l : List Bool) → Has q l → unfinished l ≤ q
+  has-finished q l E = ltb-false q (unfinished l) (sym (missed-more q l) ∙ ap (λ r. r .1 .missed) (enough-is E))
+
+  short-unfinished : (q : ℕ) (l : List Bool) → Missed (Length (4 ^ k)) (walkDown (depth k L) L q n start) (tape l false) → q < unfinished l
+  short-unfinished q l M = ltb-true q (unfinished l) (sym (missed-more q l) ∙ ap (λ r. r .1 .missed) (M .is))
+
+  finished-has : (q : ℕ) (l : List Bool) → unfinished l ≤ q → Has q l
+  finished-has q l h = go (outcome q l)
+    where
+      go : Outcome (Length (4 ^ k)) (mostRead k L n) (walkDown (depth k L) L q n start) l → Has q l
+      go (enough E) = E
+      go (short g M) = absurd (omega (arith, short-unfinished q l M))
+
+  -- as many bits as decoding can read
+  most-has : (q : ℕ) (l : List Bool) → mostRead k L n ≤ length l → Has q l
+  most-has q l h = go (outcome q l)
+    where
+      go : Outcome (Length (4 ^ k)) (mostRead k L n) (walkDown (depth k L) L q n start) l → Has q l
+      go (enough E) = E
+      go (short g M) = absurd (omega arith)
+
+  has-over : (q : ℕ) (l : List Bool) (E : Has q l) → planesOver k L n q l ≡ (E .answer, E .rest)
+  unfolding planesOver
+  has-over q l E = ap (λ r. (r .0, r .1 .left)) (enough-is E)
+
+  has-through : (q : ℕ) (l : List Bool) (E : Has q l) → bitsThrough k L n q l ≡ length (E .taken)
+  unfolding bitsThrough
+  has-through q l E = omega (arith, ap (λ r. length (r .1)) (has-over q l E), ap length (E .parts), length-append (E .taken) (E .rest))
+
+  has-same : (q : ℕ) (l : List Bool) → Has q l → (r : List Bool) → planesOver k L n q (l ++ r) ≡ ((planesOver k L n q l) .0, (planesOver k L n q l) .1 ++ r)
+  has-same q l E r = has-over q (l ++ r) (enough-more r E) ∙ ap (λ s. (s .0, s .1 ++ r)) (sym (has-over q l E))
+
+  -- cut behind their last bit the planes are finished, cut before it they are not
+  has-cut : (q : ℕ) (m : List Bool) (E : Has q m) (b : ℕ) → leb (unfinished (take b m)) q ≡ leb (length (E .taken)) b
+  has-cut q m E b = go (leb (length (E .taken)) b) refl (outcome q (take b m))
+    where
+      c : ℕ
+      c = length (E .taken)
+
+      -- the same bits of the first b
+      cut : c ≤ b → Has q (take b m)
+      cut h = record {
+        answer = E .answer;
+        known = E .known;
+        taken = E .taken;
+        rest = take (b - c) (E .rest);
+        parts = (λ i. take (let e : b ≡ c + (b - c) = omega arith in e i) (E .parts i)) ∙ take-append-add (E .taken) (E .rest) (b - c);
+        few = E .few;
+        is = E .is;
+      }
+
+      go : (o : Bool) → leb c b ≡ o → Outcome (Length (4 ^ k)) (mostRead k L n) (walkDown (depth k L) L q n start) (take b m) → leb (unfinished (take b m)) q ≡ o
+      go true e O = le-leb (unfinished (take b m)) q (has-finished q (take b m) (cut (leb-true c b e)))
+      go false e (enough D) =
+          let same : bitsThrough k L n q m ≡ length (D .taken) = ap (bitsThrough k L n q) (sym (take-append-drop b m)) ∙ has-through q (take b m ++ drop b m) (enough-more (drop b m) D) in
+          absurd (omega (arith, same, has-through q m E, leb-false c b e, ap length (D .parts), length-append (D .taken) (D .rest), length-take b m))
+      go false e (short g M) = lt-leb (unfinished (take b m)) q (short-unfinished q (take b m) M)
+
+  -- ---- any bits
+  -- Bits as many as decoding can read have every bit of every plane: so any bits are a first part of such bits.
+  pub most-read : (q : ℕ) (l : List Bool) → mostRead k L n ≤ length l → AllRead k L n q l
+  most-read q l h r = ap (λ s. s .1) (has-same q l (most-has q l h) r)
+
+  -- At most q planes are unfinished exactly if every bit of planes n - 1 to q has been read.
+  pub finished-read : (q : ℕ) (l : List Bool) → unfinished l ≤ q → AllRead k L n q l
+  finished-read q l h r = ap (λ s. s .1) (has-same q l (finished-has q l h) r)
+
+  pub read-finished : (q : ℕ) (l : List Bool) → AllRead k L n q l → unfinished l ≤ q
+  read-finished q l a =
+      let z = replicate (mostRead k L n) false in
+      let E = most-has q (l ++ z) (omega (arith, length-append l z, length-replicate (mostRead k L n) false)) in
+      let none : length (E .taken) ≤ length l = omega (arith, ap length (ap (λ s. s .1) (sym (has-over q (l ++ z) E)) ∙ a z), length-append ((planesOver k L n q l) .1) z, length-append l z, ap length (E .parts), length-append (E .taken) (E .rest)) in
+      leb-true (unfinished l) q (ap (λ m. leb (unfinished m) q) (sym (take-at l z (length l) refl)) ∙ has-cut q (l ++ z) E (length l) ∙ le-leb (length (E .taken)) (length l) none)
+
+  -- Then more bits change nothing about these planes.
+  pub read-same : (q : ℕ) (l : List Bool) → AllRead k L n q l → (r : List Bool) → planesOver k L n q (l ++ r) ≡ ((planesOver k L n q l) .0, (planesOver k L n q l) .1 ++ r)
+  read-same q l a = has-same q l (finished-has q l (read-finished q l a))
+
+  -- With what these planes come to, and the bits that they leave, the decoding goes on to planes q - 1 to 0.
+  pub read-on : (q : ℕ) (l : List Bool) → q ≤ n → AllRead k L n q l
+      → walkPlanes Decoder (depth k L) L n start (tape l false) ≡ walkPlanes Decoder (depth k L) L q ((planesOver k L n q l) .0) (tape ((planesOver k L n q l) .1) false)
+  read-on q l h a =
+      let E = finished-has q l (read-finished q l a) in
+      goes-on (depth k L) L (4 ^ k) q n start (length-replicate (4 ^ k) (pos 0)) l h (ap (λ r. r .1 .missed) (enough-is E))
+      ∙ ap (λ r. walkPlanes Decoder (depth k L) L q (r .0) (r .1)) (enough-is E) ∙ ap (λ r. walkPlanes Decoder (depth k L) L q (r .0) (tape (r .1) false)) (sym (has-over q l E))
+
+  -- The bits that they take are the first ones.
+  pub through-first : (q : ℕ) (m : List Bool) → AllRead k L n q m → (planesOver k L n q m) .1 ≡ drop (bitsThrough k L n q m) m
+  through-first q m a =
+      let E = finished-has q m (read-finished q m a) in
+      ap (λ s. s .1) (has-over q m E) ∙ sym (drop-append-seam (E .taken) (E .rest)) ∙ (λ i. drop (sym (has-through q m E) i) (sym (E .parts) i))
+
+  -- Of bits m that have every bit of planes n - 1 to q, the first b finish these planes exactly if they reach their last bit.
+  pub cut-finished : (q : ℕ) (m : List Bool) → AllRead k L n q m → (b : ℕ) → leb (unfinished (take b m)) q ≡ leb (bitsThrough k L n q m) b
+  cut-finished q m a b = let E = finished-has q m (read-finished q m a) in has-cut q m E b ∙ ap (λ c. leb c b) (sym (has-through q m E))
+
+  first-part : (q : ℕ) (l r : List Bool) → AllRead k L n q (l ++ r) → leb (unfinished l) q ≡ leb (bitsThrough k L n q (l ++ r)) (length l)
+  first-part q l r a = ap (λ m. leb (unfinished m) q) (sym (take-at l r (length l) refl)) ∙ cut-finished q (l ++ r) a (length l)
+
+  -- Where they have not all been read, all of l is read (`read-all`), and a further bit is due.
+  pub unfinished-due : (q : ℕ) (l : List Bool) → q < unfinished l → (r : List Bool) → AllRead k L n q (l ++ r) → length l < bitsThrough k L n q (l ++ r)
+  unfinished-due q l h r a = leb-false (bitsThrough k L n q (l ++ r)) (length l) (sym (first-part q l r a) ∙ lt-leb (unfinished l) q h)
+
+  -- So p is n less the planes whose every bit has been read, whatever bits make l whole.
+  pub unfinished-true : (l r : List Bool) → AllRead k L n 0 (l ++ r) → unfinished l ≡ n - planesRead k L n (l ++ r) (length l)
+  unfolding decodeOf
+  unfinished-true l r a =
+      let whole : (q : ℕ) → AllRead k L n q (l ++ r) = λ q. finished-read q (l ++ r) (omega (arith, read-finished 0 (l ++ r) a)) in
+      let e : countBelow n (leb (unfinished l)) ≡ planesRead k L n (l ++ r) (length l) = λ i. countBelow n (λ q. first-part q l r (whole q) i) in
+      omega (arith, e, count-from (unfinished l) n, count-most (depth k L) L n start (tape l false))
