@@ -1,6 +1,6 @@
 // A pass along the lines of a square in Z order, in lent memory: rows or columns, forward or back, by one routine.
 ghost use mathlib.Core.Path.{_≡_};
-ghost use Prim.Native.Nat.{_+_, _*_, _/_, _^_, _<_, _≤_};
+ghost use Prim.Native.Nat.{_*_, _-_, _/_, _^_, _<_, _≤_};
 ghost use lib.ListN.{length};
 ghost use Rattle.paper.specs.Sizes.{mostSize};
 ghost use Rattle.paper.specs.Square.{placeOf, line, along};
@@ -63,7 +63,7 @@ fn turn(back: bool, x: &[i32], out: &mut [i32])
     }
 }
 
-// Line l of the square, forward or back, in its place. `a` and `b` are working room.
+// Line l of the square, forward or back, in its place. Of the working room `a` ends as the line, `b` as the line turned.
 fn turn_line(j: u32, down: bool, back: bool, l: usize, xs: &mut [i32], a: &mut [i32], b: &mut [i32])
     requires { ⌜ j ≤ mostSize ⌝ }
     requires { ⌜ 0 < j ⌝ }
@@ -73,13 +73,15 @@ fn turn_line(j: u32, down: bool, back: bool, l: usize, xs: &mut [i32], a: &mut [
     requires { ⌜ length (now a) ≡ 2 ^ j ⌝ }
     requires { ⌜ length (now b) ≡ 2 ^ j ⌝ }
     ensures { λ _. ⌜ Put j down l (2 ^ j) (way back (line j down (now (xs .entry)) l)) (now (xs .entry)) (now (xs .exit)) ⌝ }
+    ensures { λ _. ⌜ now (a .exit) ≡ line j down (now (xs .entry)) l ⌝ }
+    ensures { λ _. ⌜ now (b .exit) ≡ way back (line j down (now (xs .entry)) l) ⌝ }
 {
     gather(xs, j, down, l, a);
     turn(back, a, b);
     scatter(b, j, down, l, xs);
 }
 
-// Every line of the square, forward or back.
+// Every line of the square, forward or back. The working room ends with the last line, as it was and turned.
 pub fn turn_lines(j: u32, down: bool, back: bool, xs: &mut [i32], a: &mut [i32], b: &mut [i32])
     requires { ⌜ j ≤ mostSize ⌝ }
     requires { ⌜ 0 < j ⌝ }
@@ -88,6 +90,8 @@ pub fn turn_lines(j: u32, down: bool, back: bool, xs: &mut [i32], a: &mut [i32],
     requires { ⌜ length (now a) ≡ 2 ^ j ⌝ }
     requires { ⌜ length (now b) ≡ 2 ^ j ⌝ }
     ensures { λ _. ⌜ now (xs .exit) ≡ along (way back) j down (now (xs .entry)) ⌝ }
+    ensures { λ _. ⌜ now (a .exit) ≡ line j down (now (xs .entry)) (2 ^ j - 1) ⌝ }
+    ensures { λ _. ⌜ now (b .exit) ≡ way back (line j down (now (xs .entry)) (2 ^ j - 1)) ⌝ }
 {
     let mut l = 0;
     while l < a.len() {

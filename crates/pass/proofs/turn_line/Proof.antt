@@ -34,7 +34,8 @@ returns : tie.Need-returns
 returns c =
     let t = c .before .before .before .before .before in
     let g = t .before .before .before .before in
-    put-as (t .turn .ensures ∙ ap (way _) (g .gather .ensures)) (c .before .scatter .ensures)
+    let e = t .turn .ensures ∙ ap (way _) (g .gather .ensures) in
+    (put-as e (c .before .scatter .ensures), (g .gather .ensures, e))
 
 pub turn-line-spec : {M : Type 1} → statement M
 turn-line-spec =
