@@ -3,7 +3,7 @@ use mathlib.Core.Path.{_≡_, refl, sym, ap, _∙_}
 use mathlib.Core.Bool.{Bool}
 use mathlib.Core.List.{List}
 use mathlib.Core.Logic.{_≢_}
-use Prim.Native.Nat.{ℕ, _+_, _^_, _<_, _≤_}
+use Prim.Native.Nat.{ℕ, _+_, _-_, _^_, _<_, _≤_}
 use native.Mathlib.Omega.{arith}
 use borrow.Author.Count.{below-none, below-more}
 use lib.ListN.{length}
@@ -42,3 +42,13 @@ passed-more f j down n old mid new h P Q = record {
 
 pub passed-all : (f : List ℤ → List ℤ) (j : ℕ) (down : Bool) (old new : List ℤ) → length old ≡ 4 ^ j → Passed f j down (2 ^ j) old new → new ≡ along f j down old
 passed-all f j down old new e P = same-square j down new _ (P .size ∙ e) (length-along f j down old) (λ l i h k. P .done l h i k ∙ sym (at-along f j down old l i h k))
+
+-- what the working room holds when n lines are done: the last of them, gathered, and changed by f
+pub record Last (f : List ℤ → List ℤ) (j : ℕ) (down : Bool) (n : ℕ) (old a b : List ℤ) : Type 0 where
+  pub gathered : a ≡ line j down old (n - 1)
+  pub turned : b ≡ f (line j down old (n - 1))
+
+pub last-more : (f : List ℤ → List ℤ) (j : ℕ) (down : Bool) (n : ℕ) (old mid a b : List ℤ) → line j down mid n ≡ line j down old n → a ≡ line j down mid n → b ≡ f (line j down mid n) → Last f j down (n + 1) old a b
+last-more f j down n old mid a b e p q =
+    let r : n + 1 - 1 ≡ n = omega arith in
+    record { gathered = rw r (p ∙ e); turned = rw r (q ∙ ap f e) }

@@ -1,10 +1,11 @@
 // A picture's way in and out: greys less 128 at their Z places, and greys set into 0 to 255 at their raster places.
 ghost use mathlib.Core.Path.{_≡_};
-ghost use Prim.Native.Nat.{ℕ, _^_, _≤_};
-ghost use lib.IntN.{pos, _-ℤ_};
+ghost use Prim.Native.Nat.{_^_, _≤_};
+ghost use lib.IntN.{pos, _+ℤ_, _-ℤ_};
 ghost use lib.ListN.{length};
 ghost use Rattle.paper.specs.Sizes.{mostSize};
-ghost use Rattle.paper.specs.Square.{lowered, raised, grey, pictured};
+ghost use Rattle.paper.specs.Lists.{made, at};
+ghost use Rattle.paper.specs.Square.{lowered, grey, pictured};
 ghost use Rattle.line.specs.Each.{Each, lineLimit};
 
 // A grey less 128.
@@ -21,24 +22,24 @@ pub fn lower(k: u32, picture: &[u8], xs: &mut [i32])
     requires { ⌜ length (now xs) ≡ 4 ^ k ⌝ }
     ensures { λ _. ⌜ now (xs .exit) ≡ lowered k (now (picture .entry)) ⌝ }
 {
-    let mut z = 0;
-    while z < xs.len() {
-        let place = places::from_z(k, places::ZPlace(z));
-        let p = place.0;
-        xs[z] = lower_grey(picture[p]);
-        z += 1;
+    let mut i = 0;
+    while i < xs.len() {
+        let z = places::z_place(i);
+        let g = places::grey_at(picture, places::from_z(k, z));
+        places::set_number(xs, z, lower_grey(g));
+        i += 1;
     }
 }
 
 // The numbers into `out`.
 pub fn copy(xs: &[i32], out: &mut [i32])
     requires { ⌜ length (now out) ≡ length (now xs) ⌝ }
-    requires { ⌜ Each lineLimit (now xs) ⌝ }
     ensures { λ _. ⌜ now (out .exit) ≡ now (xs .entry) ⌝ }
 {
     let mut i = 0;
     while i < out.len() {
-        out[i] = xs[i];
+        let z = places::z_place(i);
+        places::set_number(out, z, places::number_at(xs, z));
         i += 1;
     }
 }
@@ -46,17 +47,19 @@ pub fn copy(xs: &[i32], out: &mut [i32])
 // Each number and 128.
 pub fn raise(xs: &mut [i32])
     requires { ⌜ Each lineLimit (now xs) ⌝ }
-    ensures { λ _. ⌜ ((k : ℕ) → length (now (xs .entry)) ≡ 4 ^ k → now (xs .exit) ≡ raised k (now (xs .entry))) ⌝ }
+    ensures { λ _. ⌜ now (xs .exit) ≡ made (length (now (xs .entry))) (λ z. at (now (xs .entry)) z +ℤ pos 128) ⌝ }
 {
     let mut i = 0;
     while i < xs.len() {
-        xs[i] = xs[i] + 128;
+        let z = places::z_place(i);
+        let x = places::number_at(xs, z);
+        places::set_number(xs, z, x + 128);
         i += 1;
     }
 }
 
 // Below 0 to 0, above 255 to 255.
-fn set_grey(x: i32) -> u8
+fn grey(x: i32) -> u8
     ensures { λ r. ⌜ r ≡ grey x ⌝ }
 {
     if x < 0 {
@@ -72,15 +75,14 @@ fn set_grey(x: i32) -> u8
 pub fn set_picture(k: u32, greys: &[i32], picture: &mut [u8])
     requires { ⌜ k ≤ mostSize ⌝ }
     requires { ⌜ length (now greys) ≡ 4 ^ k ⌝ }
-    requires { ⌜ Each (2 ^ 29) (now greys) ⌝ }
     requires { ⌜ length (now picture) ≡ 4 ^ k ⌝ }
     ensures { λ _. ⌜ now (picture .exit) ≡ pictured k (now (greys .entry)) ⌝ }
 {
-    let mut p = 0;
-    while p < picture.len() {
-        let place = places::to_z(k, places::Raster(p));
-        let z = place.0;
-        picture[p] = set_grey(greys[z]);
-        p += 1;
+    let mut i = 0;
+    while i < picture.len() {
+        let p = places::raster_place(i);
+        let x = places::number_at(greys, places::to_z(k, p));
+        places::set_grey(picture, p, grey(x));
+        i += 1;
     }
 }

@@ -7,13 +7,13 @@ use native.Mathlib.Omega.{arith}
 use native.Mathlib.Nat.{pow-le-pow-right}
 use lib.Dec.{leb, lit<}
 use lib.ListN.{length, getD}
-use lib.IntN.{ℤ, pos, natAbs, _+ℤ_, _-ℤ_}
+use lib.IntN.{ℤ, pos, natAbs, _-ℤ_}
 use borrow.Author.Tests.{leb-true, le-leb}
 use Rattle.paper.specs.Sizes.{mostLevels, numberLimit, numbersIn}
 use Rattle.paper.specs.Places.{rasterOf}
 use Rattle.paper.specs.Square.{levelsBack, lowered, raised, numbersOf, greysOf}
-use Rattle.integer_laws.specs.Difference.{split, sub-⊖}
-use Rattle.integer_laws.specs.Order.{Within, ints, zarith}
+use Rattle.integer_laws.specs.Difference.{sub-⊖}
+use Rattle.integer_laws.specs.Order.{Within, zarith}
 use Rattle.sizes.proofs.Ranges.{both-first, both-second}
 use Rattle.lift.proofs.Steps.{grow, zero-within}
 use Rattle.line.specs.Each.{Each}
@@ -70,10 +70,3 @@ length-greys k L numbers = length-made (4 ^ k) _
 -- (7 * 5 + 1) times the limit is below 2 ^ 24
 pub backs-each : (L k : ℕ) (numbers : List ℤ) → L ≤ mostLevels → L ≤ k → length numbers ≡ 4 ^ k → numbersIn numbers ≡ true → Each (2 ^ 28) (levelsBack L k numbers)
 backs-each L k numbers l h e N z = grow (levels-range numberLimit L k numbers h e (in-each numbers N) z) (omega (arith, grown-most numberLimit L mostLevels l))
-
-raised-within : {x : ℤ} → Within (2 ^ 28) x → Within (2 ^ 29) (x +ℤ pos 128)
-raised-within {x} = rw (split x) (simp ints (omega zarith))
-
-pub greys-each : (L k : ℕ) (numbers : List ℤ) → L ≤ mostLevels → L ≤ k → length numbers ≡ 4 ^ k → numbersIn numbers ≡ true → Each (2 ^ 29) (greysOf k L numbers)
-unfolding greysOf raised
-greys-each L k numbers l h e N = each-made (4 ^ k) _ (λ z b. raised-within (backs-each L k numbers l h e N z))

@@ -22,16 +22,13 @@ use Rattle.line.proofs.Lines.{back-each}
 use Rattle.line.proofs.Near.{Near}
 use Rattle.square_laws.specs.Grid.{length-along, first-low, first-rest}
 use Rattle.square_laws.specs.Undone.{length-level-back, length-levels-back}
-use Rattle.square_laws.specs.Sizes.{take-within, take-each, along-each}
+use Rattle.square_laws.specs.Sizes.{take-each, along-each}
 use Rattle.square_laws.specs.Near.{columns-near, level-near, grown, grown-is}
 
 -- the first n numbers are within a, the rest within e
 pub record Sized (n a e : ℕ) (xs : List ℤ) : Type 0 where
   pub low : (z : ℕ) → z < n → Within a (at xs z)
   pub rest : (z : ℕ) → n ≤ z → Within e (at xs z)
-
-pub sized-all : {B : ℕ} (n : ℕ) (xs : List ℤ) → Each B xs → Sized n B B xs
-sized-all n xs E = record { low = λ z h. E z; rest = λ z h. E z }
 
 -- both together are within the larger
 pub sized-each : {n a e : ℕ} {xs : List ℤ} → Sized n a e xs → e ≤ a → Each a xs
@@ -40,9 +37,6 @@ sized-each {n} {a} {e} {xs} S l z = go (decLt z n)
     go : Dec (z < n) → Within a (at xs z)
     go (yes h) = S .low z h
     go (no h) = grow (S .rest z (omega arith)) l
-
-pub take-sized : {n a e : ℕ} (m : ℕ) (xs : List ℤ) → Sized n a e xs → Sized n a e (take m xs)
-take-sized m xs S = record { low = λ z h. take-within m xs z (S .low z h); rest = λ z h. take-within m xs z (S .rest z h) }
 
 pub first-sized : {a e : ℕ} (n : ℕ) (f : List ℤ → List ℤ) (xs : List ℤ) → length (f (take n xs)) ≡ n → Each a (f (take n xs)) → ((z : ℕ) → n ≤ z → Within e (at xs z)) → Sized n a e (onFirst n f xs)
 first-sized n f xs e F R = record { low = λ z h. rw (first-low n f xs z e h) (F z); rest = λ z h. rw (first-rest n f xs z e h) (R z h) }

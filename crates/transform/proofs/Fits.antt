@@ -10,8 +10,6 @@ use lib.IntN.{ℤ}
 use Rattle.paper.specs.Sizes.{mostLevels, numberLimit, levelsIn, numbersIn}
 use Rattle.paper.specs.Square.{lowered}
 use Rattle.sizes.proofs.Ranges.{levels-few}
-use Rattle.lift.proofs.Steps.{grow}
-use Rattle.line.specs.Each.{Each, lineLimit}
 use Rattle.square_laws.specs.Near.{grown}
 use Rattle.square_laws.specs.Range.{grown-most}
 use Rattle.square_laws.specs.Numbers.{Bytes, in-each, lowered-each}
@@ -30,6 +28,3 @@ numbers-fit k L numbers l N = record {
   each = in-each numbers N;
   small = omega (arith, grown-most numberLimit L mostLevels (levels-few k L l));
 }
-
-pub numbers-small : (numbers : List ℤ) → numbersIn numbers ≡ true → Each lineLimit numbers
-numbers-small numbers N z = grow (in-each numbers N z) (omega arith)

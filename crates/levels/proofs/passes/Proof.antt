@@ -16,7 +16,7 @@ turn-lines-requires-2 c κs =
     let t = c .before .before .before .before .before .before in
     let s = t .before .before .before .before in
     let p = s .pre in
-    let e = t .turn-lines .ensures in
+    let e = t .turn-lines .ensures .0 in
     (p .0, (p .1 .0, (ap length e ∙ length-along _ (s .args .j) _ _, (rw e (p .1 .1 .1 .1 .0), (search needs, search needs)))))
 
 same-length : tie.Need-same-length
@@ -33,7 +33,7 @@ returns c =
     let u = c .before .before .before in
     let t = u .before .before .before .before .before .before .before in
     let a = t .before .before .before .before .args in
-    u .turn-lines2 .ensures ∙ rw (t .turn-lines .ensures) (level-is (a .back) (a .j) (a .xs .now))
+    u .turn-lines2 .ensures .0 ∙ rw (t .turn-lines .ensures .0) (level-is (a .back) (a .j) (a .xs .now))
 
 pub passes-spec : {M : Type 1} → statement M
 passes-spec =

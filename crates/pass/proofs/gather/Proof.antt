@@ -1,16 +1,14 @@
 -- `pass::gather` meets its contract. After i turns the first i numbers of the line stand in `out`.
-use mathlib.Core.Path.{_≡_, refl}
+use mathlib.Core.Path.{_≡_, refl, ap, _∙_}
 use Prim.Native.Nat.{_≤_, _-_, _^_}
 use native.Mathlib.Omega.{arith}
 use lib.ListN.{length, length-set}
 use lib.IntN.{pos}
-use Rattle.integer_laws.specs.Machine.{read}
+use mir.Facts.{toZ-ofZ}
 use Rattle.paper.specs.Lists.{at}
 use Rattle.paper.specs.Square.{placeOf, line}
-use Rattle.places.proofs.Steps.{area-small}
 use Rattle.list_laws.specs.Made.{Filled, filled-none, filled-more, filled-all}
 use Rattle.square_laws.specs.Grid.{place-below}
-use Rattle.pass.proofs.Lines.{spot-each}
 use borrow.Author.Needs.{needs}
 use Rattle.pass.proofs.gather.Statement.{statement}
 use Rattle.pass.proofs.gather.Tie as tie
@@ -28,18 +26,13 @@ loop-holds c = (omega arith, refl, filled-none _ _ _)
 place-requires : tie.Need-place-requires Inv-loop μ-loop
 place-requires c κs = search needs
 
-mul-out : tie.Need-mul-out Inv-loop μ-loop
-mul-out c =
-    let a = c .before .before .before .args in
-    omega (arith, c .place .ensures, place-below (a .j) (a .down) (a .l) (c .before .before .loop .i), area-small (a .j) (c .before .before .before .pre .0))
-
-shared-slice-copy-out-out : tie.Need-shared-slice-copy-out-out Inv-loop μ-loop
-shared-slice-copy-out-out c =
+number-at-requires : tie.Need-number-at-requires Inv-loop μ-loop
+number-at-requires c κs =
     let a = c .before .before .before .args in
     omega (arith, c .place .ensures, place-below (a .j) (a .down) (a .l) (c .before .before .loop .i))
 
-mul-t13 : tie.Need-mul-t13 Inv-loop μ-loop
-mul-t13 c = omega arith
+mul-t7 : tie.Need-mul-t7 Inv-loop μ-loop
+mul-t7 c = omega arith
 
 slice-set-from-out : tie.Need-slice-set-from-out Inv-loop μ-loop
 slice-set-from-out c = omega arith
@@ -53,11 +46,11 @@ loop-less c = omega arith
 loop-again : tie.Need-loop-again Inv-loop μ-loop
 loop-again c =
     let t = c .before .before .before in
-    let a = t .before .args in
-    let e = spot-each (a .j) (a .down) (a .xs .now) (a .l) (t .loop .i) (t .before .pre .1 .1 .1 .0) (omega arith) in (
+    let a = t .before .args in (
       omega arith,
       simp length-set (t .loop .inv .1),
-      filled-more (pos 0) (λ i. at (a .xs .now) (placeOf (a .j) (a .down) (a .l) i)) (t .loop .i) (t .loop .out) _ (omega arith) (t .loop .inv .2) (rw (c .before .place .ensures) (read e tt)),
+      filled-more (pos 0) (λ i. at (a .xs .now) (placeOf (a .j) (a .down) (a .l) i)) (t .loop .i) (t .loop .out) _ (omega arith) (t .loop .inv .2)
+          (toZ-ofZ (record { sfits = c .number-at .ok }) ∙ c .number-at .ensures ∙ ap (at (a .xs .now)) (c .before .place .ensures)),
     )
 
 same-length : tie.Need-same-length Inv-loop μ-loop
@@ -77,9 +70,8 @@ gather-spec =
     μ-loop
     loop-holds
     place-requires
-    mul-out
-    shared-slice-copy-out-out
-    mul-t13
+    number-at-requires
+    mul-t7
     slice-set-from-out
     add-i
     loop-less

@@ -2,8 +2,7 @@
 use mathlib.Core.Path.{_≡_}
 use Prim.Native.Nat.{_≤_, _-_, _^_}
 use native.Mathlib.Omega.{arith}
-use Rattle.integer_laws.specs.Machine.{read}
-use Rattle.places.proofs.Steps.{area-small}
+use mir.Facts.{toZ-ofZ}
 use Rattle.square_laws.specs.Grid.{place-below}
 use Rattle.pass.specs.Way.{Put}
 use Rattle.pass.proofs.Lines.{put-none, put-more}
@@ -23,21 +22,15 @@ loop-holds c = (omega arith, put-none _ _ _ _ _)
 place-requires : tie.Need-place-requires Inv-loop μ-loop
 place-requires c κs = search needs
 
-mul-xs : tie.Need-mul-xs Inv-loop μ-loop
-mul-xs c = omega arith
+mul-set-number : tie.Need-mul-set-number Inv-loop μ-loop
+mul-set-number c = omega arith
 
-shared-slice-copy-out-xs : tie.Need-shared-slice-copy-out-xs Inv-loop μ-loop
-shared-slice-copy-out-xs c = omega arith
+shared-slice-copy-out-set-number : tie.Need-shared-slice-copy-out-set-number Inv-loop μ-loop
+shared-slice-copy-out-set-number c = omega arith
 
-mul-t13 : tie.Need-mul-t13 Inv-loop μ-loop
-mul-t13 c =
-    let t = c .before .before .before in
-    let a = t .before .args in
-    omega (arith, c .before .place .ensures, place-below (a .j) (a .down) (a .l) (t .loop .i), area-small (a .j) (t .before .pre .0), t .loop .inv .1 .size)
-
-slice-set-from-xs : tie.Need-slice-set-from-xs Inv-loop μ-loop
-slice-set-from-xs c =
-    let t = c .before .before .before in
+set-number-requires : tie.Need-set-number-requires Inv-loop μ-loop
+set-number-requires c κs =
+    let t = c .before .before .before .before in
     let a = t .before .args in
     omega (arith, c .before .place .ensures, place-below (a .j) (a .down) (a .l) (t .loop .i), t .loop .inv .1 .size)
 
@@ -49,11 +42,13 @@ loop-less c = omega arith
 
 loop-again : tie.Need-loop-again Inv-loop μ-loop
 loop-again c =
-    let t = c .before .before .before in
+    let w = c .before in
+    let g = w .before in
+    let t = g .before .before .before .before in
     let a = t .before .args in
     let p = t .before .pre in (
       omega arith,
-      rw (c .before .place .ensures) (put-more (a .j) (a .down) (a .l) (t .loop .i) (a .v .now) (a .xs .now) (t .loop .xs) _ (p .1 .0) (omega arith) (p .1 .1 .0) (t .loop .inv .1) (read (p .1 .1 .1 .0 (t .loop .i)) tt)),
+      rw (w .set-number .ensures, g .before .place .ensures) (put-more (a .j) (a .down) (a .l) (t .loop .i) (a .v .now) (a .xs .now) (t .loop .xs) _ (p .1 .0) (omega arith) (p .1 .1 .0) (t .loop .inv .1) (toZ-ofZ (record { sfits = g .set-number-arg2 .given }))),
     )
 
 same-length : tie.Need-same-length Inv-loop μ-loop
@@ -72,10 +67,9 @@ scatter-spec =
     μ-loop
     loop-holds
     place-requires
-    mul-xs
-    shared-slice-copy-out-xs
-    mul-t13
-    slice-set-from-xs
+    mul-set-number
+    shared-slice-copy-out-set-number
+    set-number-requires
     add-i
     loop-less
     loop-again

@@ -1,13 +1,14 @@
 -- `pass::turn_line` meets its contract.
 use mathlib.Core.Path.{ap, _∙_}
 use Rattle.pass.specs.Way.{way}
-use Rattle.pass.proofs.Lines.{gathered, turned, put-as}
+use Rattle.pass.proofs.Lines.{gathered, put-as}
 use native.Mathlib.Omega.{arith}
+use borrow.Author.Needs.{needs}
 use Rattle.pass.proofs.turn_line.Statement.{statement}
 use Rattle.pass.proofs.turn_line.Tie as tie
 
 gather-requires : tie.Need-gather-requires
-gather-requires c κs = let p = c .before .before .pre in (p .0, (p .1 .1 .0, (p .1 .1 .1 .0, (p .1 .1 .1 .1 .0, p .1 .1 .1 .1 .1 .0))))
+gather-requires c κs = let p = c .before .before .pre in (p .0, (p .1 .1 .1 .0, p .1 .1 .1 .1 .1 .0))
 
 turn-requires : tie.Need-turn-requires
 turn-requires c κs =
@@ -15,16 +16,10 @@ turn-requires c κs =
     let s = g .before .before .before in
     let a = s .args in
     let p = s .pre in
-    gathered (a .j) (a .down) (a .xs .now) (a .l) _ (p .1 .0) (g .gather .ensures) (p .1 .1 .1 .1 .0) (a .b .now) (p .1 .1 .1 .1 .1 .1)
+    gathered (a .j) (a .down) (a .xs .now) (a .l) _ (a .b .now) (p .1 .0) (g .gather .ensures) (p .1 .1 .1 .1 .0) (p .1 .1 .1 .1 .1 .1)
 
 scatter-requires : tie.Need-scatter-requires
-scatter-requires c κs =
-    let t = c .before .before .before in
-    let g = t .before .before .before .before in
-    let s = g .before .before .before in
-    let a = s .args in
-    let p = s .pre in
-    (p .0, (p .1 .1 .0, (p .1 .1 .1 .0, turned (a .j) (a .down) (a .xs .now) (a .l) _ (p .1 .0) (g .gather .ensures) (p .1 .1 .1 .1 .0) (a .back) _ (t .turn .ensures))))
+scatter-requires c κs = let p = c .before .before .before .before .before .before .before .before .before .before .pre in (p .0, (p .1 .1 .0, (p .1 .1 .1 .0, search needs)))
 
 same-length : tie.Need-same-length
 same-length c = omega arith
@@ -39,7 +34,8 @@ returns : tie.Need-returns
 returns c =
     let t = c .before .before .before .before .before in
     let g = t .before .before .before .before in
-    put-as (t .turn .ensures ∙ ap (way _) (g .gather .ensures)) (c .before .scatter .ensures)
+    let e = t .turn .ensures ∙ ap (way _) (g .gather .ensures) in
+    (put-as e (c .before .scatter .ensures), (g .gather .ensures, e))
 
 pub turn-line-spec : {M : Type 1} → statement M
 turn-line-spec =

@@ -1,13 +1,14 @@
 -- `picture::copy` meets its contract. After i turns the first i numbers are copied.
-use mathlib.Core.Path.{_≡_}
+use mathlib.Core.Path.{_≡_, ap, _∙_}
 use Prim.Native.Nat.{_≤_, _-_}
 use native.Mathlib.Omega.{arith}
 use lib.ListN.{length, length-set}
 use lib.Seq.{ext-getD}
 use lib.IntN.{pos}
-use Rattle.integer_laws.specs.Machine.{read}
+use mir.Facts.{toZ-ofZ}
 use Rattle.paper.specs.Lists.{at}
 use Rattle.list_laws.specs.Made.{Filled, filled-none, filled-more}
+use borrow.Author.Needs.{needs}
 use Rattle.picture.proofs.copy.Statement.{statement}
 use Rattle.picture.proofs.copy.Tie as tie
 
@@ -19,19 +20,16 @@ abbrev μ-loop : tie.MeasureT-loop
 μ-loop xs out₀ i₀ out i = length xs - i
 
 loop-holds : tie.Need-loop-holds Inv-loop μ-loop
-loop-holds c = (omega arith, c .pre .0, filled-none _ _ _)
+loop-holds c = (omega arith, c .pre, filled-none _ _ _)
 
-mul-out : tie.Need-mul-out Inv-loop μ-loop
-mul-out c = omega arith
+z-place-requires : tie.Need-z-place-requires Inv-loop μ-loop
+z-place-requires c κs = search needs
 
-shared-slice-copy-out-out : tie.Need-shared-slice-copy-out-out Inv-loop μ-loop
-shared-slice-copy-out-out c = omega arith
+number-at-requires : tie.Need-number-at-requires Inv-loop μ-loop
+number-at-requires c κs = omega (arith, c .before .z-place .ensures)
 
-mul-t8 : tie.Need-mul-t8 Inv-loop μ-loop
-mul-t8 c = omega arith
-
-slice-set-from-out : tie.Need-slice-set-from-out Inv-loop μ-loop
-slice-set-from-out c = omega arith
+set-number-requires : tie.Need-set-number-requires Inv-loop μ-loop
+set-number-requires c κs = omega (arith, c .before .before .z-place .ensures)
 
 add-i : tie.Need-add-i Inv-loop μ-loop
 add-i c = omega arith
@@ -41,11 +39,14 @@ loop-less c = omega arith
 
 loop-again : tie.Need-loop-again Inv-loop μ-loop
 loop-again c =
-    let t = c .before .before in
-    let a = t .before .args in (
+    let w = c .before in
+    let n = w .before in
+    let z = n .before .before in
+    let t = z .before .before in
+    let xs = t .before .args .xs .now in (
       omega arith,
-      simp length-set (t .loop .inv .1),
-      filled-more (pos 0) (at (a .xs .now)) (t .loop .i) (t .loop .out) _ (omega arith) (t .loop .inv .2) (read (t .before .pre .1 (t .loop .i)) tt),
+      rw (w .set-number .ensures) (simp length-set (t .loop .inv .1)),
+      rw (w .set-number .ensures, z .z-place .ensures) (filled-more (pos 0) (at xs) (t .loop .i) (t .loop .out) _ (omega arith) (t .loop .inv .2) (toZ-ofZ (record { sfits = n .number-at .ok }) ∙ n .number-at .ensures ∙ ap (at xs) (z .z-place .ensures))),
     )
 
 same-length : tie.Need-same-length Inv-loop μ-loop
@@ -63,10 +64,9 @@ copy-spec =
     Inv-loop
     μ-loop
     loop-holds
-    mul-out
-    shared-slice-copy-out-out
-    mul-t8
-    slice-set-from-out
+    z-place-requires
+    number-at-requires
+    set-number-requires
     add-i
     loop-less
     loop-again

@@ -1,5 +1,5 @@
--- `picture::lower` meets its contract. After z turns the first z places are filled.
-use mathlib.Core.Path.{_≡_, refl, _∙_}
+-- `picture::lower` meets its contract. After i turns the first i places are filled.
+use mathlib.Core.Path.{_≡_, _∙_}
 use Prim.Native.Nat.{_≤_, _-_, _^_}
 use native.Mathlib.Omega.{arith}
 use lib.ListN.{length, getD, length-set}
@@ -14,47 +14,50 @@ use Rattle.picture.proofs.lower.Statement.{statement}
 use Rattle.picture.proofs.lower.Tie as tie
 
 abbrev Inv-loop : tie.InvT-loop
-Inv-loop k picture xs₀ z₀ xs z =
-    (z ≤ 4 ^ k) × (length xs ≡ length xs₀) × Filled (pos 0) (λ z. pos (getD picture (rasterOf k z) 0) -ℤ pos 128) z xs
+Inv-loop k picture xs₀ i₀ xs i =
+    (i ≤ 4 ^ k) × (length xs ≡ 4 ^ k) × Filled (pos 0) (λ z. pos (getD picture (rasterOf k z) 0) -ℤ pos 128) i xs
 
 abbrev μ-loop : tie.MeasureT-loop
-μ-loop k picture xs₀ z₀ xs z = 4 ^ k - z
+μ-loop k picture xs₀ i₀ xs i = 4 ^ k - i
 
 loop-holds : tie.Need-loop-holds Inv-loop μ-loop
-loop-holds c = (omega arith, refl, filled-none _ _ _)
+loop-holds c = (omega arith, search needs, filled-none _ _ _)
+
+z-place-requires : tie.Need-z-place-requires Inv-loop μ-loop
+z-place-requires c κs = search needs
 
 from-z-requires : tie.Need-from-z-requires Inv-loop μ-loop
 from-z-requires c κs = search needs
 
-shared-slice-read-lower-grey : tie.Need-shared-slice-read-lower-grey Inv-loop μ-loop
-shared-slice-read-lower-grey c =
-    let t = c .before .before .before in
-    omega (arith, c .before .from-z .ensures, raster-below (t .before .before .args .k) (t .loop .z))
+grey-at-requires : tie.Need-grey-at-requires Inv-loop μ-loop
+grey-at-requires c κs =
+    let z = c .before in
+    omega (arith, c .from-z .ensures, raster-below (z .before .before .before .before .args .k) (z .z-place .result .0))
 
 lower-grey-requires : tie.Need-lower-grey-requires Inv-loop μ-loop
 lower-grey-requires c κs = search needs
 
-mul-t7 : tie.Need-mul-t7 Inv-loop μ-loop
-mul-t7 c = omega arith
+set-number-requires : tie.Need-set-number-requires Inv-loop μ-loop
+set-number-requires c κs = omega (arith, c .before .before .before .before .z-place .ensures)
 
-slice-set-from-xs : tie.Need-slice-set-from-xs Inv-loop μ-loop
-slice-set-from-xs c = omega arith
-
-add-z : tie.Need-add-z Inv-loop μ-loop
-add-z c = omega arith
+add-i : tie.Need-add-i Inv-loop μ-loop
+add-i c = omega arith
 
 loop-less : tie.Need-loop-less Inv-loop μ-loop
 loop-less c = omega arith
 
 loop-again : tie.Need-loop-again Inv-loop μ-loop
 loop-again c =
-    let f = c .before .before in
-    let t = f .before .before in
-    let a = t .before .before .args in (
+    let w = c .before in
+    let l = w .before in
+    let g = l .before .before in
+    let z = g .before .before in
+    let t = z .before .before in
+    let a = t .before .before .args in
+    let q : g .grey-at .result ≡ getD (a .picture .now) (rasterOf (a .k) (t .loop .i)) 0 = g .grey-at .ensures ∙ rw (g .before .from-z .ensures, z .z-place .ensures) in (
       omega arith,
-      simp length-set (t .loop .inv .1),
-      filled-more (pos 0) (λ z. pos (getD (a .picture .now) (rasterOf (a .k) z) 0) -ℤ pos 128) (t .loop .z) (t .loop .xs) _ (omega arith) (t .loop .inv .2)
-          (toZ-ofZ (record { sfits = c .lower-grey .ok }) ∙ c .lower-grey .ensures ∙ rw (f .from-z .ensures)),
+      rw (w .set-number .ensures) (simp length-set (t .loop .inv .1)),
+      rw (w .set-number .ensures, z .z-place .ensures) (filled-more (pos 0) (λ z. pos (getD (a .picture .now) (rasterOf (a .k) z) 0) -ℤ pos 128) (t .loop .i) (t .loop .xs) _ (omega arith) (t .loop .inv .2) (toZ-ofZ (record { sfits = l .lower-grey .ok }) ∙ l .lower-grey .ensures ∙ rw q)),
     )
 
 same-length : tie.Need-same-length Inv-loop μ-loop
@@ -64,7 +67,7 @@ returns : tie.Need-returns Inv-loop μ-loop
 unfolding lowered
 returns c =
     let t = c .before in
-    filled-all (pos 0) _ (4 ^ t .before .before .args .k) (t .loop .z) (t .loop .xs) (omega arith) (omega arith) (t .loop .inv .2)
+    filled-all (pos 0) _ (4 ^ t .before .before .args .k) (t .loop .i) (t .loop .xs) (omega arith) (omega arith) (t .loop .inv .2)
 
 pub lower-spec : {M : Type 1} → statement M
 lower-spec =
@@ -73,12 +76,12 @@ lower-spec =
     Inv-loop
     μ-loop
     loop-holds
+    z-place-requires
     from-z-requires
-    shared-slice-read-lower-grey
+    grey-at-requires
     lower-grey-requires
-    mul-t7
-    slice-set-from-xs
-    add-z
+    set-number-requires
+    add-i
     loop-less
     loop-again
     same-length

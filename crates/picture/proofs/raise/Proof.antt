@@ -1,16 +1,17 @@
 -- `picture::raise` meets its contract. After i turns the first i numbers are raised, and the others are as they were.
-use mathlib.Core.Path.{_≡_, refl, _∙_}
+use mathlib.Core.Path.{_≡_, refl, ap, _∙_}
 use Prim.Native.Nat.{ℕ, _≤_, _-_}
 use native.Mathlib.Omega.{arith}
 use lib.ListN.{length, length-set}
 use lib.Seq.{getD-set-other}
 use lib.IntN.{pos, _+ℤ_}
+use mir.Syntax.{w32}
+use mir.Val.{toZ, ofZ}
 use mir.Facts.{toZ-ofZ}
-use Rattle.integer_laws.specs.Machine.{read}
 use Rattle.paper.specs.Lists.{at}
-use Rattle.paper.specs.Square.{raised}
 use Rattle.list_laws.specs.Made.{Filled, filled-none, filled-more, filled-all}
 use Rattle.picture.proofs.Greys.{raise-fits}
+use borrow.Author.Needs.{needs}
 use Rattle.picture.proofs.raise.Statement.{statement}
 use Rattle.picture.proofs.raise.Tie as tie
 
@@ -21,26 +22,29 @@ Inv-loop xs₀ i₀ xs i =
 abbrev μ-loop : tie.MeasureT-loop
 μ-loop xs₀ i₀ xs i = length xs₀ - i
 
+-- the number that is read is as it was
+as-it-was : (c : tie.After-number-at Inv-loop μ-loop) → let t = c .before .before .before .before in toZ w32 (ofZ w32 (c .number-at .result)) ≡ at (t .before .args .xs .now) (t .loop .i)
+as-it-was c =
+    let z = c .before .before in
+    let t = z .before .before in
+    toZ-ofZ (record { sfits = c .number-at .ok }) ∙ c .number-at .ensures ∙ ap (at (t .loop .xs)) (z .z-place .ensures) ∙ t .loop .inv .3 (t .loop .i) (omega arith)
+
 loop-holds : tie.Need-loop-holds Inv-loop μ-loop
 loop-holds c = (omega arith, refl, filled-none _ _ _, λ z h. refl)
 
-mul-xs : tie.Need-mul-xs Inv-loop μ-loop
-mul-xs c = omega arith
+z-place-requires : tie.Need-z-place-requires Inv-loop μ-loop
+z-place-requires c κs = search needs
 
-slice-copy-out-xs : tie.Need-slice-copy-out-xs Inv-loop μ-loop
-slice-copy-out-xs c = omega arith
+number-at-requires : tie.Need-number-at-requires Inv-loop μ-loop
+number-at-requires c κs = omega (arith, c .before .z-place .ensures)
 
-add-xs : tie.Need-add-xs Inv-loop μ-loop
-add-xs c =
-    let t = c .before .before in
-    let e = t .before .pre (t .loop .i) in
-    rw (t .loop .inv .3 (t .loop .i) (omega arith), read e tt) (raise-fits e)
+add-set-number : tie.Need-add-set-number Inv-loop μ-loop
+add-set-number c =
+    let t = c .before .before .before .before .before in
+    rw (as-it-was (c .before)) (raise-fits (t .before .pre (t .loop .i)))
 
-mul-t8 : tie.Need-mul-t8 Inv-loop μ-loop
-mul-t8 c = omega arith
-
-slice-set-from-xs : tie.Need-slice-set-from-xs Inv-loop μ-loop
-slice-set-from-xs c = omega arith
+set-number-requires : tie.Need-set-number-requires Inv-loop μ-loop
+set-number-requires c κs = omega (arith, c .before .before .before .z-place .ensures)
 
 add-i : tie.Need-add-i Inv-loop μ-loop
 add-i c = omega arith
@@ -50,25 +54,25 @@ loop-less c = omega arith
 
 loop-again : tie.Need-loop-again Inv-loop μ-loop
 loop-again c =
-    let t = c .before .before in
-    let a = t .before .args in
-    let i = t .loop .i in
-    let e = t .before .pre i in
-    let k = t .loop .inv .3 in (
-      simp length-set (omega arith),
-      simp length-set (t .loop .inv .1),
-      filled-more (pos 0) (λ z. at (a .xs .now) z +ℤ pos 128) i (t .loop .xs) _ (omega arith) (t .loop .inv .2) (simp (k i (omega arith), read e tt) (toZ-ofZ (raise-fits e))),
-      λ z h. getD-set-other (t .loop .xs) i z _ (pos 0) (omega arith) ∙ k z (omega arith),
+    let w = c .before in
+    let n = w .before .before in
+    let z = n .before .before in
+    let t = z .before .before in
+    let xs = t .before .args .xs .now in
+    let i = t .loop .i in (
+      rw (w .set-number .ensures) (simp length-set (omega arith)),
+      rw (w .set-number .ensures) (simp length-set (t .loop .inv .1)),
+      rw (w .set-number .ensures, z .z-place .ensures) (filled-more (pos 0) (λ z. at xs z +ℤ pos 128) i (t .loop .xs) _ (omega arith) (t .loop .inv .2) (simp (as-it-was n) (toZ-ofZ (raise-fits (t .before .pre i))))),
+      λ m h. rw (w .set-number .ensures, z .z-place .ensures) (getD-set-other (t .loop .xs) i m _ (pos 0) (omega arith) ∙ t .loop .inv .3 m (omega arith)),
     )
 
 same-length : tie.Need-same-length Inv-loop μ-loop
 same-length c = omega arith
 
 returns : tie.Need-returns Inv-loop μ-loop
-unfolding raised
 returns c =
     let t = c .before in
-    λ k e. filled-all (pos 0) _ _ (t .loop .i) (t .loop .xs) (t .loop .inv .1 ∙ e) (omega arith) (t .loop .inv .2)
+    filled-all (pos 0) _ _ (t .loop .i) (t .loop .xs) (t .loop .inv .1) (omega arith) (t .loop .inv .2)
 
 pub raise-spec : {M : Type 1} → statement M
 raise-spec =
@@ -77,11 +81,10 @@ raise-spec =
     Inv-loop
     μ-loop
     loop-holds
-    mul-xs
-    slice-copy-out-xs
-    add-xs
-    mul-t8
-    slice-set-from-xs
+    z-place-requires
+    number-at-requires
+    add-set-number
+    set-number-requires
     add-i
     loop-less
     loop-again

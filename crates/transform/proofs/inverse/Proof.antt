@@ -2,8 +2,8 @@
 use mathlib.Core.Path.{ap, _∙_}
 use native.Mathlib.Omega.{arith}
 use lib.ListN.{length}
-use Rattle.sizes.proofs.Ranges.{size-high, levels-few, levels-less}
-use Rattle.square_laws.specs.Numbers.{length-greys, greys-each}
+use Rattle.sizes.proofs.Ranges.{size-high}
+use Rattle.square_laws.specs.Numbers.{length-greys}
 use Rattle.paper.specs.Jobs.{inverseJob}
 use Rattle.transform.proofs.Refusals.{job-refused, inverse-accepted, picture-accepted, inverse-done}
 use borrow.Author.Needs.{needs}
@@ -37,10 +37,7 @@ set-picture-requires c κs =
     let r = v .inverse-refusal .ensures in
     let z = w .before .before .if1 .left in
     let p = inverse-accepted (a .k) (a .levels) (a .numbers .now) (a .picture .now) (a .room .now) _ r z in
-    let e = w .to-greys .ensures in
-    let l = levels-few (a .k) (a .levels) (p .1 .0) in
-    let m = levels-less (a .k) (a .levels) (p .1 .0) in
-    (size-high (a .k) (p .0), (ap length e ∙ length-greys (a .k) (a .levels) (a .numbers .now), (rw e (greys-each (a .levels) (a .k) (a .numbers .now) l (omega arith) (p .1 .1 .0) (p .1 .1 .1 .0)), picture-accepted (a .k) (a .levels) (a .numbers .now) (a .picture .now) (a .room .now) _ r z)))
+    (size-high (a .k) (p .0), (ap length (w .to-greys .ensures) ∙ length-greys (a .k) (a .levels) (a .numbers .now), picture-accepted (a .k) (a .levels) (a .numbers .now) (a .picture .now) (a .room .now) _ r z))
 
 same-length-3 : tie.Need-same-length-3
 same-length-3 c = omega arith

@@ -6,7 +6,7 @@ use Rattle.paper.specs.Square.{levelsBack, raised, greysOf}
 use Rattle.sizes.proofs.Ranges.{size-high, levels-few, levels-less}
 use Rattle.square_laws.specs.Undone.{length-levels-back}
 use Rattle.square_laws.specs.Numbers.{backs-each}
-use Rattle.transform.proofs.Fits.{numbers-fit, numbers-small}
+use Rattle.transform.proofs.Fits.{numbers-fit}
 use Rattle.transform.proofs.to_greys.Statement.{statement}
 use Rattle.transform.proofs.to_greys.Tie as tie
 
@@ -18,7 +18,7 @@ done : (v : tie.After-back) → v .back .last .1 .1 .0 ≡ levelsBack (start v .
 done v = v .back .ensures ∙ ap (levelsBack (start v .args .levels) (start v .args .k)) (v .before .before .before .copy .ensures)
 
 copy-requires : tie.Need-copy-requires
-copy-requires c κs = let s = c .before in let p = s .pre in (p .1 .1 .1 .1 ∙ sym (p .1 .1 .0), numbers-small (s .args .numbers .now) (p .1 .1 .1 .0))
+copy-requires c κs = let p = c .before .pre in p .1 .1 .1 .1 ∙ sym (p .1 .1 .0)
 
 back-requires : tie.Need-back-requires
 back-requires c κs =
@@ -41,12 +41,12 @@ same-length : tie.Need-same-length
 same-length c = omega arith
 
 returns : tie.Need-returns
-unfolding greysOf
+unfolding greysOf raised
 returns c =
     let w = c .before in
     let v = w .before .before .before in
     let a = start v .args in
-    w .raise .ensures (a .k) (ap length (done v) ∙ length-levels-back (a .levels) (a .k) (a .numbers .now) (start v .pre .1 .1 .0)) ∙ ap (raised (a .k)) (done v)
+    w .raise .ensures ∙ rw (done v, length-levels-back (a .levels) (a .k) (a .numbers .now) (start v .pre .1 .1 .0))
 
 pub to-greys-spec : {M : Type 1} → statement M
 to-greys-spec = tie.close (tie.spec copy-requires back-requires raise-requires same-length returns)

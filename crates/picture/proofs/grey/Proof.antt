@@ -1,8 +1,8 @@
--- `picture::set_grey` meets its contract.
+-- `picture::grey` meets its contract.
 use mir.Facts.{toZ-ofZ}
 use Rattle.picture.proofs.Greys.{grey-below, grey-above, grey-between}
-use Rattle.picture.proofs.set_grey.Statement.{statement}
-use Rattle.picture.proofs.set_grey.Tie as tie
+use Rattle.picture.proofs.grey.Statement.{statement}
+use Rattle.picture.proofs.grey.Tie as tie
 
 returns : tie.Need-returns
 returns c = grey-below _ (rw (toZ-ofZ (c .before .fits .x)) at (c .if1 .taken))
@@ -20,5 +20,5 @@ returns-3 c =
     let e = toZ-ofZ (c .before .before .fits .x) in
     rw e (grey-between (c .before .before .args .x) (rw e at (c .before .if1 .left)) (rw e at (c .if2 .left)) .1)
 
-pub set-grey-spec : {M : Type 1} → statement M
-set-grey-spec = tie.close (tie.spec returns returns-2 cast-result returns-3)
+pub grey-spec : {M : Type 1} → statement M
+grey-spec = tie.close (tie.spec returns returns-2 cast-result returns-3)
