@@ -1,19 +1,20 @@
 -- One bit read, and one bit in a byte as the code makes it.
-use mathlib.Core.Path.{_≡_, refl, sym, ap, _∙_}
+use mathlib.Core.Path.{_≡_, refl, sym, ap, _∙_, subst}
 use mathlib.Core.Bool.{Bool, true, false}
-use mathlib.Core.Option.{none, some}
+use mathlib.Core.Option.{Option, none, some}
 use mathlib.Core.List.{List, [], _∷_}
 use Prim.Native.Nat.{ℕ, zero, suc, _+_, _*_, _-_, _/_, _%_, _^_, _<_, _≤_}
 use native.Mathlib.Omega.{arith}
 use native.Mathlib.Numerals.{add-one}
 use lib.Dec.{ltb, eqb}
-use lib.ListN.{length, take, drop, getD, length-take, drop-of-length-le}
+use lib.ListN.{length, take, drop, getD, length-take, length-drop, drop-of-length-le}
 use lib.Seq.{drop-cons, getD-take}
-use borrow.Author.Tests.{lt-ltb, le-ltb}
+use borrow.Author.Tests.{lt-ltb, le-ltb, ltb-true, ltb-false}
 use Rattle.paper.specs.Lists.{pick}
-use Rattle.paper.specs.Walk.{bitOf, worth, nextBit}
+use Rattle.paper.specs.Walk.{bitOf, worth, Tape, nextBit}
 use Rattle.paper.specs.Bits.{bits}
-use Rattle.bits.specs.Bits.{kept, withBit, tapeOf, ReadBit}
+use Rattle.bits.specs.Bits.{kept, withBit, tapeOf, nextAt}
+use Rattle.bits.specs.declared.Answer.{Answer}
 
 pub bits-length : (s : List ℕ) → length (bits s) ≡ 8 * length s
 unfolding bits
@@ -42,24 +43,38 @@ pub bit-is : (s : List ℕ) (at : ℕ) → at < 8 * length s → eqb (getD s (at
 unfolding bitOf
 bit-is s at h = sym (bits-at s at h)
 
--- a bit that is there, and one that is not
-pub read-yes : (src : List ℕ) (b at : ℕ) (one : Bool) → at < b → b ≤ 8 * length src → one ≡ getD (bits src) at false → ReadBit src b at one (at + 1)
+-- ---- the tape of the first b bits
+pub tape-long : (src : List ℕ) (b : ℕ) → b ≤ 8 * length src → length (take b (bits src)) ≡ b
+tape-long src b h = length-take b (bits src) ∙ omega (arith, bits-length src)
+
+-- what was heard, if the bit `one` was answered and the place is now r: nothing if the bit was missed
+abbrev pub heard : ℕ → Bool → ℕ → Option Bool
+heard b one r = pick (ltb b r) none (some one)
+
+-- r answers the tape's next bit at `at`
+pub record ReadBit (src : List ℕ) (b at : ℕ) (r : Answer) : Type 0 where
+  pub read : _≡_ {A = Option Bool × Tape} (nextBit (tapeOf src b at .left) (tapeOf src b at .missed)) (heard b (r .one) (r .at), tapeOf src b (r .at))
+  pub quiet : b < r .at → r .one ≡ false
+  pub near : r .at ≤ b + 1
+
+read-yes : (src : List ℕ) (b at : ℕ) → at < b → b ≤ 8 * length src → ReadBit src b at (record { one = getD (bits src) at false; at = at + 1 })
 unfolding tapeOf
-read-yes src b at one h k e =
+read-yes src b at h k =
     let B = bits src in
-    let n : length (take b B) ≡ b = length-take b B ∙ omega (arith, bits-length src) in
-    let d : drop at (take b B) ≡ one ∷ drop (at + 1) (take b B) = drop-cons (take b B) at false (omega arith) ∙ (λ i. (getD-take b B at false h ∙ sym e) i ∷ drop (sym (add-one at) i) (take b B)) in
+    let one = getD B at false in
+    let d : drop at (take b B) ≡ one ∷ drop (at + 1) (take b B) = drop-cons (take b B) at false (omega (arith, tape-long src b k)) ∙ (λ i. getD-take b B at false h i ∷ drop (sym (add-one at) i) (take b B)) in
     let m : ltb b at ≡ false = le-ltb b at (omega arith) in
     let m′ : false ≡ ltb b (at + 1) = sym (le-ltb b (at + 1) (omega arith)) in
     record {
       read = (λ i. nextBit (d i) (m i)) ∙ (λ i. (pick (m′ i) none (some one), record { left = drop (at + 1) (take b B); missed = m′ i }));
       quiet = λ q. absurd (no at b h q);
+      near = omega arith;
     }
   where
     no : (at b : ℕ) → at < b → b < at + 1 → ⊥
     no at b h q = omega arith
 
-pub read-no : (src : List ℕ) (b at : ℕ) → b ≤ at → ReadBit src b at false (b + 1)
+read-no : (src : List ℕ) (b at : ℕ) → b ≤ at → ReadBit src b at (record { one = false; at = b + 1 })
 unfolding tapeOf
 read-no src b at h =
     let B = bits src in
@@ -71,7 +86,33 @@ read-no src b at h =
     record {
       read = ap (λ l. nextBit l (ltb b at)) d ∙ (λ i. (pick (m′ i) none (some false), record { left = d′ i; missed = m′ i }));
       quiet = λ q. refl;
+      near = omega arith;
     }
+
+pub read-next : {src : List ℕ} {b at : ℕ} {r : Answer} → b ≤ 8 * length src → r ≡ nextAt src b at → ReadBit src b at r
+unfolding nextAt
+read-next {src} {b} {at} {r} k e = subst (ReadBit src b at) (sym e) (go (ltb at b) refl)
+  where
+    go : (o : Bool) → ltb at b ≡ o → ReadBit src b at (pick o (record { one = getD (bits src) at false; at = at + 1 }) (record { one = false; at = b + 1 }))
+    go true o = read-yes src b at (ltb-true at b o) k
+    go false o = read-no src b at (ltb-false at b o)
+
+-- two places up to b + 1 with the same tape are the same place
+pub place-settled : (src : List ℕ) (b r s : ℕ) → b ≤ 8 * length src → r ≤ b + 1 → s ≤ b + 1 → tapeOf src b r ≡ tapeOf src b s → r ≡ s
+unfolding tapeOf
+place-settled src b r s k h g e = go (ltb b r) refl (ltb b s) refl
+  where
+    left : b - r ≡ b - s
+    left = omega (arith, tape-long src b k, length-drop r (take b (bits src)), length-drop s (take b (bits src)), ap (λ (t : Tape). length (t .left)) e)
+
+    missed : ltb b r ≡ ltb b s
+    missed = ap (λ (t : Tape). t .missed) e
+
+    go : (x : Bool) → ltb b r ≡ x → (y : Bool) → ltb b s ≡ y → r ≡ s
+    go true p true q = omega (arith, ltb-true b r p, ltb-true b s q)
+    go false p false q = omega (arith, ltb-false b r p, ltb-false b s q, left)
+    go true p false q = absurd (let z : _≡_ {A = ℕ} 0 1 = cc missed in omega arith)
+    go false p true q = absurd (let z : _≡_ {A = ℕ} 0 1 = cc missed in omega arith)
 
 -- ---- one bit put into a byte v behind its first k bits; w is what the bit is worth
 pub record Fit (w v k : ℕ) : Type 0 where

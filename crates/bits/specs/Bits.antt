@@ -1,15 +1,14 @@
 -- What the contracts of this crate cite: one bit put into packed bytes, and the next of the first b bits of bytes.
-use mathlib.Core.Path.{_≡_}
 use mathlib.Core.Bool.{Bool, false}
-use mathlib.Core.Option.{Option, none, some}
 use mathlib.Core.List.{List, [], _∷_}
-use Prim.Native.Nat.{ℕ, zero, suc, _+_, _*_, _-_, _/_, _%_, _^_, _<_}
+use Prim.Native.Nat.{ℕ, zero, suc, _+_, _*_, _-_, _/_, _%_, _^_}
 use lib.Dec.{ltb}
 use lib.ListN.{take, drop, getD}
 use lib.ListN as ListN
 use Rattle.paper.specs.Lists.{pick}
-use Rattle.paper.specs.Walk.{Tape, nextBit, worth}
+use Rattle.paper.specs.Walk.{Tape, worth}
 use Rattle.paper.specs.Bits.{bits}
+use Rattle.bits.specs.declared.Answer.{Answer}
 
 -- ---- bits put
 -- a byte's first k bits, then zeros; of no bits nothing is kept, whatever the byte held
@@ -35,15 +34,10 @@ wrote limit [] s = s
 wrote limit (b ∷ l) s = wrote limit l (put1 limit b s)
 
 -- ---- bits read
--- the first b bits of bytes, from the place `at` on; `at` is past b once a bit was missed
+-- the first b bits of bytes, from the place `at` on; the place is b + 1 once a bit was missed
 unfoldable pub tapeOf : List ℕ → ℕ → ℕ → Tape
 tapeOf src b at = record { left = drop at (take b (bits src)); missed = ltb b at }
 
--- what was heard, if the bit `one` was answered and the place is now r: nothing if the bit was missed
-abbrev pub heard : ℕ → Bool → ℕ → Option Bool
-heard b one r = pick (ltb b r) none (some one)
-
--- the next bit was read at `at`: the tape says so, and a missed bit is answered as 0
-pub record ReadBit (src : List ℕ) (b at : ℕ) (one : Bool) (r : ℕ) : Type 0 where
-  pub read : _≡_ {A = Option Bool × Tape} (nextBit (tapeOf src b at .left) (tapeOf src b at .missed)) (heard b one r, tapeOf src b r)
-  pub quiet : b < r → one ≡ false
+-- the next of the first b bits and the place behind it; a bit that is missed is answered as 0, and the place is b + 1
+unfoldable pub nextAt : List ℕ → ℕ → ℕ → Answer
+nextAt src b at = pick (ltb at b) (record { one = getD (bits src) at false; at = at + 1 }) (record { one = false; at = b + 1 })

@@ -4,7 +4,7 @@ ghost use mathlib.Core.Bool.{false};
 ghost use Prim.Native.Nat.{_+_, _*_, _^_, _<_, _≤_};
 ghost use lib.ListN.{length, getD};
 ghost use Rattle.paper.specs.Bits.{bits};
-ghost use Rattle.bits.specs.Bits.{Sink, withBit, put1, ReadBit};
+ghost use Rattle.bits.specs.Bits.{Sink, withBit, put1, nextAt};
 
 // The bit at a place.
 pub fn bit_at(s: &[u8], at: usize) -> bool
@@ -21,10 +21,10 @@ pub struct Answer {
     pub at: usize,
 }
 
-// The next of the first b bits, and the place behind it. Where the bit is missed, `at` is past b.
+// The next of the first b bits, and the place behind it. A bit that is missed is answered as 0, and the place is b + 1.
 pub fn read_bit(src: &[u8], b: usize, at: usize) -> Answer
     requires { ⌜ (b ≤ 8 * length (now src)) × (b + 1 < 2 ^ 64) ⌝ }
-    ensures { λ r. ⌜ ReadBit (now (src .entry)) b at (r .one) (r .at) ⌝ }
+    ensures { λ r. ⌜ r ≡ nextAt (now (src .entry)) b at ⌝ }
 {
     if at < b {
         let one = bit_at(src, at);

@@ -40,6 +40,7 @@ module _ (p : ℕ) (bytes : List ℕ) (b : ℕ) (low : p < mostPlanes) where
   four-read (x0 ∷ x1 ∷ x2 ∷ []) a y0 y1 y2 y3 r0 r1 r2 r3 n w R0 R1 R2 R3 = absurd (omega arith)
   four-read (x0 ∷ x1 ∷ x2 ∷ x3 ∷ []) a y0 y1 y2 y3 r0 r1 r2 r3 n w R0 R1 R2 R3 = record {
     is = decode-next _ _ (one x0 y0 a r0 (w .0) R0) (decode-next _ _ (one x1 y1 r0 r1 (w .1 .0) R1) (decode-next _ _ (one x2 y2 r1 r2 (w .1 .1 .0) R2) (decode-next _ _ (one x3 y3 r2 r3 (w .1 .1 .1 .0) R3) refl)));
+    near = R3 .near;
   }
   four-read (x0 ∷ x1 ∷ x2 ∷ x3 ∷ x4 ∷ xs) a y0 y1 y2 y3 r0 r1 r2 r3 n w R0 R1 R2 R3 = absurd (omega arith)
 

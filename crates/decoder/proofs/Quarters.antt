@@ -2,7 +2,7 @@
 use mathlib.Core.Path.{_≡_, sym, ap, _∙_, subst}
 use mathlib.Core.Bool.{Bool, true, false}
 use mathlib.Core.List.{List}
-use Prim.Native.Nat.{ℕ, zero, suc, _*_, _-_, _/_, _^_, _<_, _≤_}
+use Prim.Native.Nat.{ℕ, zero, suc, _+_, _*_, _-_, _/_, _^_, _<_, _≤_}
 use native.Mathlib.Nat.{pow-suc, mul-div-cancel, pow-le-pow-right}
 use native.Mathlib.Omega.{arith}
 use lib.IntN.{ℤ}
@@ -59,14 +59,14 @@ module _ (p : ℕ) (xs : List ℤ) {bytes : List ℕ} {b at : ℕ} {o : Bool} {a
   after-test (suc d) = ap (λ r. opened Decoder xs (inside p (suc d) xs) (r .0) (r .1)) (T .is)
 
   pub closed-read : o ≡ false → SetRead p xs bytes b at xs a
-  closed-read e = record { read = λ d h. record { is = after-test d ∙ ap (λ o. opened Decoder xs (inside p d xs) o (tapeOf bytes b a)) e } }
+  closed-read e = record { read = λ d h. record { is = after-test d ∙ ap (λ o. opened Decoder xs (inside p d xs) o (tapeOf bytes b a)) e; near = T .near } }
 
-  open-read : o ≡ true → (zs : List ℤ) (r : ℕ) → ((d : ℕ) → length xs ≡ 4 ^ suc d → inside p d xs (tapeOf bytes b a) ≡ (zs, tapeOf bytes b r)) → SetRead p xs bytes b at zs r
-  open-read e zs r h = record { read = λ d s. record { is = after-test d ∙ ap (λ o. opened Decoder xs (inside p d xs) o (tapeOf bytes b a)) e ∙ h d s } }
+  open-read : o ≡ true → (zs : List ℤ) (r : ℕ) → r ≤ b + 1 → ((d : ℕ) → length xs ≡ 4 ^ suc d → inside p d xs (tapeOf bytes b a) ≡ (zs, tapeOf bytes b r)) → SetRead p xs bytes b at zs r
+  open-read e zs r n h = record { read = λ d s. record { is = after-test d ∙ ap (λ o. opened Decoder xs (inside p d xs) o (tapeOf bytes b a)) e ∙ h d s; near = n } }
 
   pub four-set : (zs : List ℤ) (r : ℕ) → length xs ≡ 4 → o ≡ true → Walked (walkNumbers Decoder p xs) bytes b a zs r → SetRead p xs bytes b at zs r
   unfolding inside
-  four-set zs r n e F = open-read e zs r go
+  four-set zs r n e F = open-read e zs r (F .near) go
     where
       go : (d : ℕ) → length xs ≡ 4 ^ suc d → inside p d xs (tapeOf bytes b a) ≡ (zs, tapeOf bytes b r)
       go zero h = F .is
@@ -78,7 +78,7 @@ module _ (p : ℕ) (xs : List ℤ) {bytes : List ℕ} {b at : ℕ} {o : Bool} {a
       → SetRead p (part3 xs (length xs / 4) z1 z2) bytes b r2 z3 r3 → SetRead p (part4 xs (length xs / 4) z1 z2 z3) bytes b r3 z4 r4
       → SetRead p xs bytes b at (after4 xs (length xs / 4) z1 z2 z3 z4) r4
   unfolding inside quarters-of
-  quarters-set Q z1 z2 z3 z4 r1 r2 r3 r4 e k1 k2 k3 R1 R2 R3 R4 = open-read e _ r4 go
+  quarters-set Q z1 z2 z3 z4 r1 r2 r3 r4 e k1 k2 k3 R1 R2 R3 R4 = open-read e _ r4 (R4 .read (Q .d) (size4 xs Q z1 k1 z2 k2 z3 k3 ∙ Q .is) .near) go
     where
       q : ℕ
       q = length xs / 4

@@ -8,10 +8,11 @@ use Rattle.paper.specs.Walk.{Decoder, walkNumber, walkSet}
 use Rattle.walk_laws.specs.Together.{Decodes}
 use Rattle.bits.specs.Bits.{tapeOf}
 
--- b bits that are lent, with a place left to say that one was missed
-pub record Source (bytes : List ℕ) (b : ℕ) : Type 0 where
+-- b bits that are lent, and the place of the next of them: b + 1 once one was missed, which a place can say
+pub record Source (bytes : List ℕ) (b at : ℕ) : Type 0 where
   pub lent : b ≤ 8 * length bytes
   pub missable : b + 1 < 2 ^ 64
+  pub near : at ≤ b + 1
 
 -- the numbers of a set
 pub record IsSet (xs : List ℤ) : Type 0 where
@@ -21,6 +22,7 @@ pub record IsSet (xs : List ℤ) : Type 0 where
 -- from the place `at` on, the walk f answers a and leaves off at r
 pub record Walked {A : Type 0} (f : Decodes A) (bytes : List ℕ) (b at : ℕ) (a : A) (r : ℕ) : Type 0 where
   pub is : f (tapeOf bytes b at) ≡ (a, tapeOf bytes b r)
+  pub near : r ≤ b + 1
 
 abbrev pub NumberRead : ℕ → ℤ → List ℕ → ℕ → ℕ → ℤ → ℕ → Type 0
 NumberRead p x bytes b at y r = Walked (walkNumber Decoder p x) bytes b at (y ∷ []) r

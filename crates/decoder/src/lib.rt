@@ -1,5 +1,5 @@
 // The decoder's walk over a set: a test, a number, four numbers, and a set that calls itself on its quarters. `at` is
-// the place of the next of the first b bits, and past b once a bit was missed.
+// the place of the next of the first b bits, and b + 1 once a bit was missed.
 ghost use mathlib.Core.Path.{_≡_};
 ghost use Prim.Native.Nat.{ℕ, suc, _+_, _^_, _<_, _≤_};
 ghost use lib.IntN.{natAbs};
@@ -15,7 +15,7 @@ use scan::Seen;
 pub fn read_test(numbers: &[i32], p: u32, bytes: &[u8], b: usize, at: usize) -> Answer
     requires { ⌜ Room (suc p) (now numbers) ⌝ }
     requires { ⌜ p < mostPlanes ⌝ }
-    requires { ⌜ Source (now bytes) b ⌝ }
+    requires { ⌜ Source (now bytes) b at ⌝ }
     ensures { λ r. ⌜ Walked (testSet Decoder p (now (numbers .entry))) (now (bytes .entry)) b at (r .one) (r .at) ⌝ }
 {
     let s = scan::scan(numbers, p);
@@ -52,7 +52,7 @@ pub struct Number {
 fn read_number(x: i32, p: u32, bytes: &[u8], b: usize, at: usize) -> Number
     requires { ⌜ natAbs x + 2 ^ suc p ≤ 2 ^ mostPlanes ⌝ }
     requires { ⌜ p < mostPlanes ⌝ }
-    requires { ⌜ Source (now bytes) b ⌝ }
+    requires { ⌜ Source (now bytes) b at ⌝ }
     ensures { λ r. ⌜ NumberRead p x (now (bytes .entry)) b at (r .x) (r .at) ⌝ }
 {
     let t = scan::threshold(p);
@@ -79,7 +79,7 @@ fn read_number(x: i32, p: u32, bytes: &[u8], b: usize, at: usize) -> Number
 fn read_four(numbers: &mut [i32], p: u32, bytes: &[u8], b: usize, at: usize) -> usize
     requires { ⌜ Room (suc p) (now numbers) ⌝ }
     requires { ⌜ p < mostPlanes ⌝ }
-    requires { ⌜ Source (now bytes) b ⌝ }
+    requires { ⌜ Source (now bytes) b at ⌝ }
     requires { ⌜ length (now numbers) ≡ 4 ⌝ }
     ensures { λ r. ⌜ Walked (walkNumbers Decoder p (now (numbers .entry))) (now (bytes .entry)) b at (now (numbers .exit)) r ⌝ }
 {
@@ -102,7 +102,7 @@ fn read_four(numbers: &mut [i32], p: u32, bytes: &[u8], b: usize, at: usize) -> 
 pub fn read_set(numbers: &mut [i32], p: u32, bytes: &[u8], b: usize, at: usize) -> usize
     requires { ⌜ Room (suc p) (now numbers) ⌝ }
     requires { ⌜ p < mostPlanes ⌝ }
-    requires { ⌜ Source (now bytes) b ⌝ }
+    requires { ⌜ Source (now bytes) b at ⌝ }
     requires { ⌜ IsSet (now numbers) ⌝ }
     ensures { λ r. ⌜ SetRead p (now (numbers .entry)) (now (bytes .entry)) b at (now (numbers .exit)) r ⌝ }
 {

@@ -57,8 +57,8 @@ module _ {k L n : ℕ} {xs : List ℤ} {bytes : List ℕ} {b : ℕ} {zs : List �
   pub zeros-room : Room n zs
   zeros-room = rw (A .zeros) (room-zeros n (length xs) (A .planes))
 
-  pub capped : Source bytes c
-  capped = record { lent = omega (arith, A .cap, A .lent); missable = omega (arith, A .cap) }
+  pub capped : Source bytes c 0
+  capped = record { lent = omega (arith, A .cap, A .lent); missable = omega (arith, A .cap); near = omega arith }
 
   pub square : IsSquare zs first
   square = record { d = depth k L; L = L; is = A .set; sized = size }

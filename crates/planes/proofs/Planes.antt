@@ -13,6 +13,8 @@ use Rattle.paper.specs.Walk.{Decoder, walkPlane, walkPlanes}
 use Rattle.walk_laws.specs.Room.{Room, plane-leaves}
 use Rattle.walk_laws.specs.Together.{Decodes}
 use Rattle.bits.specs.Bits.{tapeOf}
+use Rattle.decoder.specs.Walked.{Source}
+use Rattle.decoder.proofs.Bits.{on}
 use Rattle.planes.specs.Levels.{IsSquare, PlaneRead, PlanesRead}
 
 -- what follows a plane, by whether a bit was missed
@@ -29,16 +31,17 @@ pub record Before (n first : ℕ) (xs₀ : List ℤ) (bytes : List ℕ) (b p : �
   pub same : (d L : ℕ) → first ≡ 4 ^ suc d → length xs₀ ≡ 4 ^ (suc d + L) → walkPlanes Decoder d L p xs (tapeOf bytes b at) ≡ walkPlanes Decoder d L n xs₀ (tapeOf bytes b 0)
   pub room : Room p xs
   pub low : p ≤ mostPlanes
+  pub source : Source bytes b at
   pub square : IsSquare xs first
   pub size : length xs ≡ length xs₀
 
-pub before-first : (n first : ℕ) (xs : List ℤ) (bytes : List ℕ) (b : ℕ) → Room n xs → n ≤ mostPlanes → IsSquare xs first → Before n first xs bytes b n xs 0
-before-first n first xs bytes b w h K = record { same = λ d L e s. refl; room = w; low = h; square = K; size = refl }
+pub before-first : (n first : ℕ) (xs : List ℤ) (bytes : List ℕ) (b : ℕ) → Room n xs → n ≤ mostPlanes → Source bytes b 0 → IsSquare xs first → Before n first xs bytes b n xs 0
+before-first n first xs bytes b w h S K = record { source = S; same = λ d L e s. refl; room = w; low = h; square = K; size = refl }
 
 module _ {n first : ℕ} {xs₀ : List ℤ} {bytes : List ℕ} {b p : ℕ} {xs : List ℤ} {at : ℕ} (B : Before n first xs₀ bytes b p xs at) where
   pub none-left : p ≤ 0 → PlanesRead n first xs₀ bytes b xs 0 at
   none-left h = record {
-    read = λ d L e z. record { is = sym (B .same d L e z) ∙ ap (λ m. walkPlanes Decoder d L m xs (tapeOf bytes b at)) (let y : p ≡ 0 = omega arith in y) ∙ (unfold walkPlanes in refl) };
+    read = λ d L e z. record { is = sym (B .same d L e z) ∙ ap (λ m. walkPlanes Decoder d L m xs (tapeOf bytes b at)) (let y : p ≡ 0 = omega arith in y) ∙ (unfold walkPlanes in refl); near = B .source .near };
   }
 
   module _ (h : 0 < p) where
@@ -60,6 +63,7 @@ module _ {n first : ℕ} {xs₀ : List ℤ} {bytes : List ℕ} {b p : ℕ} {xs :
                 ∙ ap (λ m. walkPlanes Decoder d L m xs (tapeOf bytes b at)) down ∙ B .same d L e z;
             room = subst (λ c. Room (p - 1) (c .0)) (R .read (K .d) (K .L) (K .is) (K .sized) .is) (plane-leaves (p - 1) plane-low (K .d) (K .L) xs plane-room .room (tapeOf bytes b at));
             low = omega (arith, B .low);
+            source = on (B .source) (R .read (K .d) (K .L) (K .is) (K .sized) .near);
             square = record { d = K .d; L = K .L; is = K .is; sized = s ∙ K .sized };
             size = s ∙ B .size;
           }
@@ -70,5 +74,6 @@ module _ {n first : ℕ} {xs₀ : List ℤ} {bytes : List ℕ} {b p : ℕ} {xs :
         read = λ d L e z. record {
           is = sym (B .same d L e z) ∙ ap (λ m. walkPlanes Decoder d L m xs (tapeOf bytes b at)) (sym down)
               ∙ after-plane d L (p - 1) xs ys bytes b at r true (R .read d L e (B .size ∙ z) .is) (lt-ltb b r k) ∙ ap (λ m. ((ys, m), tapeOf bytes b r)) down;
+          near = R .read d L e (B .size ∙ z) .near;
         };
       }

@@ -11,7 +11,7 @@ use Rattle.paper.specs.Walk.{Decoder, walkSet, walkRest, testSet, _next_}
 use Rattle.walk_laws.specs.Asks.{opened, behind}
 use Rattle.walk_laws.specs.Together.{Decodes}
 use Rattle.bits.specs.Bits.{tapeOf}
-use Rattle.decoder.specs.Walked.{Walked, SetRead}
+use Rattle.decoder.specs.Walked.{Source, Walked, SetRead}
 use Rattle.decoder.proofs.Parts.{after4, part1, part2, part3, part4, is4, len4, three-read}
 use Rattle.planes.specs.Levels.{IsRest, RestRead}
 
@@ -74,11 +74,11 @@ inside p d left xs =
     let q = 4 ^ suc d in
     _next_ Decoder (walkSet Decoder p d (take q xs)) (_next_ Decoder (walkSet Decoder p d (take q (drop q xs))) (_next_ Decoder (walkSet Decoder p d (take q (drop q (drop q xs)))) (walkRest Decoder p (suc d) left (behind q xs))))
 
-pub ended-read : (p q : ℕ) (xs : List ℤ) (bytes : List ℕ) (b at : ℕ) → length xs ≡ 0 → RestRead p q xs bytes b at xs at
-ended-read p q xs bytes b at n = record { read = go }
+pub ended-read : (p q : ℕ) (xs : List ℤ) (bytes : List ℕ) (b at : ℕ) → length xs ≡ 0 → Source bytes b at → RestRead p q xs bytes b at xs at
+ended-read p q xs bytes b at n S = record { read = go }
   where
     go : (d left : ℕ) → q ≡ 4 ^ suc d → length xs + q ≡ 4 ^ (suc d + left) → Walked (walkRest Decoder p d left xs) bytes b at xs at
-    go d zero is s = record { is = unfold walkRest in refl }
+    go d zero is s = record { is = unfold walkRest in refl; near = S .near }
     go d (suc left) is s = absurd (let O = some-of xs q d left is s in omega (arith, O .three, O .some))
 
 module _ (p q : ℕ) (xs : List ℤ) {bytes : List ℕ} {b at : ℕ} {o : Bool} {a : ℕ} (T : Walked (testSet Decoder p xs) bytes b at o a) (n : length xs ≡ 0 → ⊥) where
@@ -86,15 +86,15 @@ module _ (p q : ℕ) (xs : List ℤ) {bytes : List ℕ} {b at : ℕ} {o : Bool} 
   unfolding walkRest
   after-test d left = ap (λ r. opened Decoder xs (inside p d left xs) (r .0) (r .1)) (T .is)
 
-  tested-read : (ys : List ℤ) (r : ℕ) → ((d left : ℕ) → q ≡ 4 ^ suc d → length xs + q ≡ 4 ^ (suc d + suc left) → opened Decoder xs (inside p d left xs) o (tapeOf bytes b a) ≡ (ys, tapeOf bytes b r)) → RestRead p q xs bytes b at ys r
-  tested-read ys r h = record { read = go }
+  tested-read : (ys : List ℤ) (r : ℕ) → r ≤ b + 1 → ((d left : ℕ) → q ≡ 4 ^ suc d → length xs + q ≡ 4 ^ (suc d + suc left) → opened Decoder xs (inside p d left xs) o (tapeOf bytes b a) ≡ (ys, tapeOf bytes b r)) → RestRead p q xs bytes b at ys r
+  tested-read ys r k h = record { read = go }
     where
       go : (d left : ℕ) → q ≡ 4 ^ suc d → length xs + q ≡ 4 ^ (suc d + left) → Walked (walkRest Decoder p d left xs) bytes b at ys r
       go d zero is s = absurd (n (none-left xs q d is s))
-      go d (suc left) is s = record { is = after-test d left ∙ h d left is s }
+      go d (suc left) is s = record { is = after-test d left ∙ h d left is s; near = k }
 
   pub closed-read : o ≡ false → RestRead p q xs bytes b at xs a
-  closed-read e = tested-read xs a (λ d left is s. ap (λ o. opened Decoder xs (inside p d left xs) o (tapeOf bytes b a)) e)
+  closed-read e = tested-read xs a (T .near) (λ d left is s. ap (λ o. opened Decoder xs (inside p d left xs) o (tapeOf bytes b a)) e)
 
   pub outward-read : (O : Some xs q) (z1 z2 z3 z4 : List ℤ) (r1 r2 r3 r4 : ℕ) → o ≡ true
       → (k1 : length z1 ≡ length (part1 xs q)) (k2 : length z2 ≡ length (part2 xs q z1)) (k3 : length z3 ≡ length (part3 xs q z1 z2))
@@ -102,7 +102,7 @@ module _ (p q : ℕ) (xs : List ℤ) {bytes : List ℕ} {b at : ℕ} {o : Bool} 
       → RestRead p (q + q + q + q) (part4 xs q z1 z2 z3) bytes b r3 z4 r4
       → RestRead p q xs bytes b at (after4 xs q z1 z2 z3 z4) r4
   outward-read O z1 z2 z3 z4 r1 r2 r3 r4 e k1 k2 k3 R1 R2 R3 R4 =
-      tested-read _ r4 (λ d left is s. ap (λ o. opened Decoder xs (inside p d left xs) o (tapeOf bytes b a)) e ∙ go d left is s)
+      tested-read _ r4 (R4 .read (suc (O .d)) (O .left) (fourfold q (O .d) (O .is)) (sized-behind xs q O z1 k1 z2 k2 z3 k3 (O .d) (O .left) (O .sized)) .near) (λ d left is s. ap (λ o. opened Decoder xs (inside p d left xs) o (tapeOf bytes b a)) e ∙ go d left is s)
     where
       go : (d left : ℕ) → q ≡ 4 ^ suc d → length xs + q ≡ 4 ^ (suc d + suc left) → inside p d left xs (tapeOf bytes b a) ≡ (after4 xs q z1 z2 z3 z4, tapeOf bytes b r4)
       go d left is s =

@@ -32,7 +32,7 @@ module _ (xs : List ℤ) (q : ℕ) (K : IsSquare xs q) where
   is-first : part1 xs q ≡ take q xs
   is-first = ap (λ k. take k xs) (sub-zero q)
 
-  size-first : length (part1 xs q) ≡ q
+  pub size-first : length (part1 xs q) ≡ q
   size-first = ap length is-first ∙ length-take q xs ∙ omega (arith, fits)
 
   module _ (z1 : List ℤ) (k1 : length z1 ≡ length (part1 xs q)) where
@@ -51,7 +51,7 @@ module _ (xs : List ℤ) (q : ℕ) (K : IsSquare xs q) where
     is-second : second xs q z1 ≡ drop q xs
     is-second = (λ i. take (left i) (drop q (now1 i))) ∙ mid-at z1 (drop q xs) [] q (length (drop q xs)) h1 refl
 
-    sized : length (second xs q z1) + q ≡ length xs
+    pub sized : length (second xs q z1) + q ≡ length xs
     sized = omega (arith, ap length is-second, length-drop q xs, fits)
 
     both : (z2 : List ℤ) → after-both xs q z1 z2 ≡ z1 ++ z2
@@ -70,7 +70,7 @@ module _ (xs : List ℤ) (q : ℕ) (K : IsSquare xs q) where
     -- as the walk has it
     pub plane-read : (p : ℕ) (z2 : List ℤ) (bytes : List ℕ) (b at r1 r2 : ℕ) → SetRead p (part1 xs q) bytes b at z1 r1 → RestRead p q (second xs q z1) bytes b r1 z2 r2 → PlaneRead p q xs bytes b at (after-both xs q z1 z2) r2
     unfolding walkPlane
-    plane-read p z2 bytes b at r1 r2 R1 R2 = record { read = λ d L is s. record { is = go d L is s } }
+    plane-read p z2 bytes b at r1 r2 R1 R2 = record { read = λ d L is s. record { is = go d L is s; near = R2 .read d L is (sized ∙ s) .near } }
       where
         go : (d L : ℕ) → q ≡ 4 ^ suc d → length xs ≡ 4 ^ (suc d + L)
             → _next_ Decoder (walkSet Decoder p d (take (4 ^ suc d) xs)) (walkRest Decoder p d L (drop (4 ^ suc d) xs)) (tapeOf bytes b at) ≡ (after-both xs q z1 z2, tapeOf bytes b r2)

@@ -1,5 +1,5 @@
 // The decoder's walk over planes: the rest behind the first set, one plane, and the planes from the highest on until a
-// bit is missing. `at` is the place of the next of the first b bits, and past b once a bit was missed.
+// bit is missing. `at` is the place of the next of the first b bits, and b + 1 once a bit was missed.
 ghost use Prim.Native.Nat.{ℕ, suc, _<_, _≤_};
 ghost use Rattle.paper.specs.Sizes.{mostPlanes};
 ghost use Rattle.walk_laws.specs.Room.{Room};
@@ -10,7 +10,7 @@ ghost use Rattle.planes.specs.Levels.{IsRest, IsSquare, RestRead, PlaneR
 fn read_rest(numbers: &mut [i32], q: usize, p: u32, bytes: &[u8], b: usize, at: usize) -> usize
     requires { ⌜ Room (suc p) (now numbers) ⌝ }
     requires { ⌜ p < mostPlanes ⌝ }
-    requires { ⌜ Source (now bytes) b ⌝ }
+    requires { ⌜ Source (now bytes) b at ⌝ }
     requires { ⌜ IsRest (now numbers) q ⌝ }
     ensures { λ r. ⌜ RestRead p q (now (numbers .entry)) (now (bytes .entry)) b at (now (numbers .exit)) r ⌝ }
 {
@@ -35,7 +35,7 @@ fn read_rest(numbers: &mut [i32], q: usize, p: u32, bytes: &[u8], b: usize, at: 
 fn read_plane(numbers: &mut [i32], first: usize, p: u32, bytes: &[u8], b: usize, at: usize) -> usize
     requires { ⌜ Room (suc p) (now numbers) ⌝ }
     requires { ⌜ p < mostPlanes ⌝ }
-    requires { ⌜ Source (now bytes) b ⌝ }
+    requires { ⌜ Source (now bytes) b at ⌝ }
     requires { ⌜ IsSquare (now numbers) first ⌝ }
     ensures { λ r. ⌜ PlaneRead p first (now (numbers .entry)) (now (bytes .entry)) b at (now (numbers .exit)) r ⌝ }
 {
@@ -52,7 +52,7 @@ pub struct Done {
 pub fn read_planes(numbers: &mut [i32], first: usize, n: u32, bytes: &[u8], b: usize) -> Done
     requires { ⌜ Room n (now numbers) ⌝ }
     requires { ⌜ n ≤ mostPlanes ⌝ }
-    requires { ⌜ Source (now bytes) b ⌝ }
+    requires { ⌜ Source (now bytes) b 0 ⌝ }
     requires { ⌜ IsSquare (now numbers) first ⌝ }
     ensures { λ r. ⌜ PlanesRead n first (now (numbers .entry)) (now (bytes .entry)) b (now (numbers .exit)) (r .unfinished) (r .at) ⌝ }
 {

@@ -1,5 +1,6 @@
 -- What the walks of this crate cite of a `BitSource`: its type and laws over a signature's one lifetime, what is asked of a source, and what is told of an answer.
 -- Assumes nothing.
+use mathlib.Core.Path.{_≡_}
 use Prim.Native.Nat.{ℕ, _+_, _*_, _^_, _<_, _≤_}
 use lib.ListN.{length}
 use contract.Lifetimes.{Lfts}
@@ -8,7 +9,7 @@ use denote.Ref.{now}
 use denote.Signature.{namedLft}
 use denote.Struct.Declared.{Declared}
 use denote.Struct.Laws as LL
-use Rattle.bits.specs.Bits.{ReadBit}
+use Rattle.bits.specs.Bits.{nextAt}
 use Rattle.bits.specs.declared.Answer.{Answer}
 use Rattle.source.specs.declared.BitSource.{BitSource}
 use Rattle.source.proofs.BitSource as T
@@ -29,7 +30,7 @@ Lent d = (d .count ≤ 8 * length (now (d .bytes))) × (d .count + 1 < 2 ^ 64)
 
 -- the next bit was read
 abbrev pub Told : BitSource → Answer → Type 0
-Told d r = ReadBit (now (d .bytes)) (d .count) (d .place) (r .one) (r .at)
+Told d r = r ≡ nextAt (now (d .bytes)) (d .count) (d .place)
 
 -- the source at another place
 abbrev pub placed : ℕ → BitSource → BitSource

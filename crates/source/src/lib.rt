@@ -3,7 +3,7 @@
 ghost use mathlib.Core.Path.{_≡_};
 ghost use Prim.Native.Nat.{_+_, _*_, _^_, _<_, _≤_};
 ghost use lib.ListN.{length};
-ghost use Rattle.bits.specs.Bits.{ReadBit};
+ghost use Rattle.bits.specs.Bits.{nextAt};
 
 pub struct BitSource<'a> {
     pub bytes: &'a [u8],
@@ -33,10 +33,10 @@ pub fn moved<'a>(source: BitSource<'a>, place: usize) -> BitSource<'a>
     }
 }
 
-// The next bit, and the place behind it, past the count once a bit was missed.
+// The next bit, and the place behind it: one past the count where the bit is missed.
 pub fn take<'a>(source: BitSource<'a>) -> bits::Answer
     requires { ⌜ (source .count ≤ 8 * length (now (source .bytes))) × (source .count + 1 < 2 ^ 64) ⌝ }
-    ensures { λ r. ⌜ ReadBit (now (source .entry .bytes)) (source .entry .count) (source .entry .place) (r .one) (r .at) ⌝ }
+    ensures { λ r. ⌜ r ≡ nextAt (now (source .entry .bytes)) (source .entry .count) (source .entry .place) ⌝ }
 {
     bits::read_bit(source.bytes, source.count, source.place)
 }
@@ -44,7 +44,7 @@ pub fn take<'a>(source: BitSource<'a>) -> bits::Answer
 // The bit at a place, by the struct's way: with plain parameters, so whoever calls it needs no walk by hand.
 pub fn bit_from(bytes: &[u8], count: usize, place: usize) -> bits::Answer
     requires { ⌜ (count ≤ 8 * length (now bytes)) × (count + 1 < 2 ^ 64) ⌝ }
-    ensures { λ r. ⌜ ReadBit (now (bytes .entry)) count place (r .one) (r .at) ⌝ }
+    ensures { λ r. ⌜ r ≡ nextAt (now (bytes .entry)) count place ⌝ }
 {
     take(moved(new(bytes, count), place))
 }

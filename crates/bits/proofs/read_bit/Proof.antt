@@ -1,6 +1,7 @@
 -- A bit that is there, and one that is missed.
+use borrow.Author.Tests.{lt-ltb, le-ltb}
 use borrow.Author.Needs.{needs}
-use Rattle.bits.proofs.OneBit.{read-yes, read-no}
+use Rattle.bits.specs.Bits.{nextAt}
 use Rattle.bits.proofs.read_bit.Tie as tie
 use Rattle.bits.proofs.read_bit.Statement.{statement}
 
@@ -14,10 +15,12 @@ add-t8 : tie.Need-add-t8
 add-t8 c = search needs
 
 returns : tie.Need-returns
-returns c = let S = c .before .before .before in read-yes _ _ _ _ (c .before .if1 .taken) (S .pre .0) (c .bit-at .ensures)
+unfolding nextAt
+returns c = simp (lt-ltb _ _ (c .before .if1 .taken), c .bit-at .ensures)
 
 returns-2 : tie.Need-returns-2
-returns-2 c = read-no _ _ _ (c .if1 .left)
+unfolding nextAt
+returns-2 c = simp (le-ltb _ _ (c .if1 .left))
 
 pub read-bit-spec : {M : Type 1} → statement M
 read-bit-spec = tie.close (tie.spec bit-at-requires add-t7 add-t8 returns returns-2)

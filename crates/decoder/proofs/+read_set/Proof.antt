@@ -1,3 +1,4 @@
+use Rattle.decoder.proofs.Bits.{on}
 -- `read_set` meets its contract. The measure is the length, which falls to a quarter at each call of itself.
 use mathlib.Core.Path.{_∙_}
 use Prim.Native.Nat.{ℕ, suc, _/_, _<_}
@@ -27,7 +28,8 @@ read-set-below t =
     and 2 read-set-kinds.ps (falls 2 read-set-kinds.ps _<_ μ-read-set t) read-set.Pre
 
 read-set-read-test-requires : (t : ℕ) → read-set-lts.Need-read-test-requires (read-test-reads.Asked, read-test-reads.Learnt, read-four-reads.Asked, read-four-reads.Learnt, read-set-below t, read-set.Post) (read-set-at t) read-set.Post
-read-set-read-test-requires t c κs = search needs
+read-set-read-test-requires t c κs =
+    search needs
 
 read-set-same-length : (t : ℕ) → read-set-lts.Need-same-length (read-test-reads.Asked, read-test-reads.Learnt, read-four-reads.Asked, read-four-reads.Learnt, read-set-below t, read-set.Post) (read-set-at t) read-set.Post
 read-set-same-length t c = search needs
@@ -37,7 +39,8 @@ read-set-returns t c =
     closed-read _ _ (c .before .before .read-test .ensures) (not-true _ (c .if1 .taken))
 
 read-set-read-four-requires : (t : ℕ) → read-set-lts.Need-read-four-requires (read-test-reads.Asked, read-test-reads.Learnt, read-four-reads.Asked, read-four-reads.Learnt, read-set-below t, read-set.Post) (read-set-at t) read-set.Post
-read-set-read-four-requires t c κs = search needs
+read-set-read-four-requires t c κs =
+    let S = c .before .before .before .before .before .before .before in (S .pre .1 .0, (S .pre .1 .1 .0, (on (S .pre .1 .1 .1 .0) (c .before .before .before .before .read-test .ensures .near), c .before .if2 .taken)))
 
 read-set-same-length-2 : (t : ℕ) → read-set-lts.Need-same-length-2 (read-test-reads.Asked, read-test-reads.Learnt, read-four-reads.Asked, read-four-reads.Learnt, read-set-below t, read-set.Post) (read-set-at t) read-set.Post
 read-set-same-length-2 t c = search needs
@@ -66,8 +69,9 @@ read-set-read-set-requires t c κs =
     let S = c .before .before .before .before .before .before .before in
     let xs = S .args .numbers .now in
     let Q = quarters xs (S .pre .1 .1 .1 .1) (c .before .if2 .left) in
+    let A = S .pre .1 .1 .1 .0 in
     let P = ready1 (suc (S .args .p)) xs (length xs / 4) (Q .d) (Q .three) (Q .is) (S .pre .1 .0) in
-    (shorter Q (S .pre .0) (P .size), (P .room, (S .pre .1 .1 .0, (S .pre .1 .1 .1 .0, P .set))))
+    (shorter Q (S .pre .0) (P .size), (P .room, (S .pre .1 .1 .0, (on A (c .before .before .before .before .read-test .ensures .near), P .set))))
 
 read-set-mul-read-set : (t : ℕ) → read-set-lts.Need-mul-read-set (read-test-reads.Asked, read-test-reads.Learnt, read-four-reads.Asked, read-four-reads.Learnt, read-set-below t, read-set.Post) (read-set-at t) read-set.Post
 read-set-mul-read-set t c = search needs
@@ -86,10 +90,12 @@ read-set-read-set-requires-2 t c κs =
     let S = c .before .before .before .before .before .before .before .before .before .before in
     let xs = S .args .numbers .now in
     let Q = quarters xs (S .pre .1 .1 .1 .1) (c .before .before .before .before .if2 .left) in
+    let A = S .pre .1 .1 .1 .0 in
     let z1 = c .before .before .read-set .last .0 in
     let k1 = c .before .before .read-set .kept .0 in
+    let B = ready1 (suc (S .args .p)) xs (length xs / 4) (Q .d) (Q .three) (Q .is) (S .pre .1 .0) in
     let P = ready2 (suc (S .args .p)) xs (length xs / 4) (Q .d) (Q .three) (Q .is) (S .pre .1 .0) z1 k1 in
-    (shorter Q (S .pre .0) (P .size), (P .room, (S .pre .1 .1 .0, (S .pre .1 .1 .1 .0, P .set))))
+    (shorter Q (S .pre .0) (P .size), (P .room, (S .pre .1 .1 .0, (on A (c .before .before .read-set .ensures .read (Q .d) (B .size ∙ Q .is) .near), P .set))))
 
 read-set-mul-read-set-2 : (t : ℕ) → read-set-lts.Need-mul-read-set-2 (read-test-reads.Asked, read-test-reads.Learnt, read-four-reads.Asked, read-four-reads.Learnt, read-set-below t, read-set.Post) (read-set-at t) read-set.Post
 read-set-mul-read-set-2 t c = search needs
@@ -108,12 +114,14 @@ read-set-read-set-requires-3 t c κs =
     let S = c .before .before .before .before .before .before .before .before .before .before .before .before .before in
     let xs = S .args .numbers .now in
     let Q = quarters xs (S .pre .1 .1 .1 .1) (c .before .before .before .before .before .before .before .if2 .left) in
+    let A = S .pre .1 .1 .1 .0 in
     let z1 = c .before .before .before .before .before .read-set .last .0 in
     let k1 = c .before .before .before .before .before .read-set .kept .0 in
     let z2 = c .before .before .read-set2 .last .0 in
     let k2 = c .before .before .read-set2 .kept .0 in
+    let B = ready2 (suc (S .args .p)) xs (length xs / 4) (Q .d) (Q .three) (Q .is) (S .pre .1 .0) z1 k1 in
     let P = ready3 (suc (S .args .p)) xs (length xs / 4) (Q .d) (Q .three) (Q .is) (S .pre .1 .0) z1 k1 z2 k2 in
-    (shorter Q (S .pre .0) (P .size), (P .room, (S .pre .1 .1 .0, (S .pre .1 .1 .1 .0, P .set))))
+    (shorter Q (S .pre .0) (P .size), (P .room, (S .pre .1 .1 .0, (on A (c .before .before .read-set2 .ensures .read (Q .d) (B .size ∙ Q .is) .near), P .set))))
 
 read-set-mul-read-set-3 : (t : ℕ) → read-set-lts.Need-mul-read-set-3 (read-test-reads.Asked, read-test-reads.Learnt, read-four-reads.Asked, read-four-reads.Learnt, read-set-below t, read-set.Post) (read-set-at t) read-set.Post
 read-set-mul-read-set-3 t c = search needs
@@ -132,14 +140,16 @@ read-set-read-set-requires-4 t c κs =
     let S = c .before .before .before .before .before .before .before .before .before .before .before .before .before .before .before .before in
     let xs = S .args .numbers .now in
     let Q = quarters xs (S .pre .1 .1 .1 .1) (c .before .before .before .before .before .before .before .before .before .before .if2 .left) in
+    let A = S .pre .1 .1 .1 .0 in
     let z1 = c .before .before .before .before .before .before .before .before .read-set .last .0 in
     let k1 = c .before .before .before .before .before .before .before .before .read-set .kept .0 in
     let z2 = c .before .before .before .before .before .read-set2 .last .0 in
     let k2 = c .before .before .before .before .before .read-set2 .kept .0 in
     let z3 = c .before .before .read-set3 .last .0 in
     let k3 = c .before .before .read-set3 .kept .0 in
+    let B = ready3 (suc (S .args .p)) xs (length xs / 4) (Q .d) (Q .three) (Q .is) (S .pre .1 .0) z1 k1 z2 k2 in
     let s = size4 xs Q z1 k1 z2 k2 z3 k3 in
-    (shorter Q (S .pre .0) s, (room4 (suc (S .args .p)) xs (length xs / 4) (Q .d) (Q .three) (Q .is) (S .pre .1 .0) z1 k1 z2 k2 z3 k3, (S .pre .1 .1 .0, (S .pre .1 .1 .1 .0, record { d = Q .d; is = s ∙ Q .is }))))
+    (shorter Q (S .pre .0) s, (room4 (suc (S .args .p)) xs (length xs / 4) (Q .d) (Q .three) (Q .is) (S .pre .1 .0) z1 k1 z2 k2 z3 k3, (S .pre .1 .1 .0, (on A (c .before .before .read-set3 .ensures .read (Q .d) (B .size ∙ Q .is) .near), record { d = Q .d; is = s ∙ Q .is }))))
 
 read-set-same-length-3 : (t : ℕ) → read-set-lts.Need-same-length-3 (read-test-reads.Asked, read-test-reads.Learnt, read-four-reads.Asked, read-four-reads.Learnt, read-set-below t, read-set.Post) (read-set-at t) read-set.Post
 read-set-same-length-3 t c =

@@ -1,3 +1,4 @@
+use Rattle.decoder.proofs.Bits.{on}
 -- `read_four` meets its contract.
 use native.Mathlib.Omega.{arith}
 use borrow.Author.Needs.{needs}
@@ -10,28 +11,32 @@ slice-copy-out-read-number c = search needs
 
 read-number-requires : tie.Need-read-number-requires
 read-number-requires c κs =
-    (ready (c .before .before .args .p) (c .before .before .args .numbers .now) 0 (omega (arith, c .before .before .pre .1 .1 .1)) (c .before .before .pre .0), (c .before .before .pre .1 .0, c .before .before .pre .1 .1 .0))
+    let S = c .before .before in
+    (ready (S .args .p) (S .args .numbers .now) 0 (omega (arith, S .pre .1 .1 .1)) (S .pre .0), (S .pre .1 .0, S .pre .1 .1 .0))
 
 slice-copy-out-read-number-2 : tie.Need-slice-copy-out-read-number-2
 slice-copy-out-read-number-2 c = search needs
 
 read-number-requires-2 : tie.Need-read-number-requires-2
 read-number-requires-2 c κs =
-    (ready (c .before .before .before .before .args .p) (c .before .before .before .before .args .numbers .now) 1 (omega (arith, c .before .before .before .before .pre .1 .1 .1)) (c .before .before .before .before .pre .0), (c .before .before .before .before .pre .1 .0, c .before .before .before .before .pre .1 .1 .0))
+    let S = c .before .before .before .before in
+    (ready (S .args .p) (S .args .numbers .now) 1 (omega (arith, S .pre .1 .1 .1)) (S .pre .0), (S .pre .1 .0, on (S .pre .1 .1 .0) (c .before .read-number .ensures .near)))
 
 slice-copy-out-read-number-3 : tie.Need-slice-copy-out-read-number-3
 slice-copy-out-read-number-3 c = search needs
 
 read-number-requires-3 : tie.Need-read-number-requires-3
 read-number-requires-3 c κs =
-    (ready (c .before .before .before .before .before .before .args .p) (c .before .before .before .before .before .before .args .numbers .now) 2 (omega (arith, c .before .before .before .before .before .before .pre .1 .1 .1)) (c .before .before .before .before .before .before .pre .0), (c .before .before .before .before .before .before .pre .1 .0, c .before .before .before .before .before .before .pre .1 .1 .0))
+    let S = c .before .before .before .before .before .before in
+    (ready (S .args .p) (S .args .numbers .now) 2 (omega (arith, S .pre .1 .1 .1)) (S .pre .0), (S .pre .1 .0, on (S .pre .1 .1 .0) (c .before .read-number2 .ensures .near)))
 
 slice-copy-out-read-number-4 : tie.Need-slice-copy-out-read-number-4
 slice-copy-out-read-number-4 c = search needs
 
 read-number-requires-4 : tie.Need-read-number-requires-4
 read-number-requires-4 c κs =
-    (ready (c .before .before .before .before .before .before .before .before .args .p) (c .before .before .before .before .before .before .before .before .args .numbers .now) 3 (omega (arith, c .before .before .before .before .before .before .before .before .pre .1 .1 .1)) (c .before .before .before .before .before .before .before .before .pre .0), (c .before .before .before .before .before .before .before .before .pre .1 .0, c .before .before .before .before .before .before .before .before .pre .1 .1 .0))
+    let S = c .before .before .before .before .before .before .before .before in
+    (ready (S .args .p) (S .args .numbers .now) 3 (omega (arith, S .pre .1 .1 .1)) (S .pre .0), (S .pre .1 .0, on (S .pre .1 .1 .0) (c .before .read-number3 .ensures .near)))
 
 slice-set-from-x0 : tie.Need-slice-set-from-x0
 slice-set-from-x0 c =
@@ -39,22 +44,27 @@ slice-set-from-x0 c =
 
 slice-set-from-x1 : tie.Need-slice-set-from-x1
 slice-set-from-x1 c =
-    in-two (c .before .before .before .before .before .before .before .before .before .before .before .args .numbers .now) _ (c .before .before .before .before .before .before .before .before .before .before .before .pre .1 .1 .1)
+    let S = c .before .before .before .before .before .before .before .before .before .before .before in in-two (S .args .numbers .now) _ (S .pre .1 .1 .1)
 
 slice-set-from-x2 : tie.Need-slice-set-from-x2
 slice-set-from-x2 c =
-    in-three (c .before .before .before .before .before .before .before .before .before .before .before .before .args .numbers .now) _ _ (c .before .before .before .before .before .before .before .before .before .before .before .before .pre .1 .1 .1)
+    let S = c .before .before .before .before .before .before .before .before .before .before .before .before in in-three (S .args .numbers .now) _ _ (S .pre .1 .1 .1)
 
 slice-set-from-x3 : tie.Need-slice-set-from-x3
 slice-set-from-x3 c =
-    in-four (c .before .before .before .before .before .before .before .before .before .before .before .before .before .args .numbers .now) _ _ _ (c .before .before .before .before .before .before .before .before .before .before .before .before .before .pre .1 .1 .1)
+    let S = c .before .before .before .before .before .before .before .before .before .before .before .before .before in in-four (S .args .numbers .now) _ _ _ (S .pre .1 .1 .1)
 
 same-length : tie.Need-same-length
 same-length c = search needs
 
 returns : tie.Need-returns
 returns c =
-    four-read (c .before .before .before .before .before .before .before .before .before .before .before .before .before .args .p) _ _ (c .before .before .before .before .before .before .before .before .before .before .before .before .before .pre .1 .0) (c .before .before .before .before .before .before .before .before .before .before .before .before .before .args .numbers .now) _ _ _ _ _ _ _ _ _ (c .before .before .before .before .before .before .before .before .before .before .before .before .before .pre .1 .1 .1) (c .before .before .before .before .before .before .before .before .before .before .before .before .before .pre .0) (c .before .before .before .before .before .before .before .before .before .before .read-number .ensures) (c .before .before .before .before .before .before .before .before .read-number2 .ensures) (c .before .before .before .before .before .before .read-number3 .ensures) (c .before .before .before .before .read-number4 .ensures)
+    let S = c .before .before .before .before .before .before .before .before .before .before .before .before .before in
+    four-read (S .args .p) _ _ (S .pre .1 .0) (S .args .numbers .now) _ _ _ _ _ _ _ _ _ (S .pre .1 .1 .1) (S .pre .0)
+    (c .before .before .before .before .before .before .before .before .before .before .read-number .ensures)
+    (c .before .before .before .before .before .before .before .before .read-number2 .ensures)
+    (c .before .before .before .before .before .before .read-number3 .ensures)
+    (c .before .before .before .before .read-number4 .ensures)
 
 pub read-four-spec : {M : Type 1} → statement M
 read-four-spec =

@@ -1,3 +1,4 @@
+use Rattle.bits.proofs.OneBit.{read-next}
 -- `read_number` meets its contract.
 use mathlib.Core.Path.{_∙_, ap}
 use Prim.Native.Nat.{_+_}
@@ -24,11 +25,14 @@ read-bit-requires c κs = search needs
 
 returns : tie.Need-returns
 returns c =
-    let x = c .before .before .before .before .before .before .args .x in
-    let p = c .before .before .before .before .before .before .args .p in
-    let h = c .before .before .before .before .before .before .pre .0 in
+    let S = c .before .before .before .before .before .before in
+    let x = S .args .x in
+    let p = S .args .p in
+    let h = S .pre .0 in
     let e = held x p h in
-    number-still p x (c .before .before .read-bit .ensures) _ e (not-true _ (c .if1 .taken))
+    let lent = S .pre .1 .1 .lent in
+    let R = read-next lent (c .before .before .read-bit .ensures) in
+    number-still p x R _ e (not-true _ (c .if1 .taken))
 
 mul-if2 : tie.Need-mul-if2
 mul-if2 c = search needs
@@ -39,22 +43,29 @@ grown-requires c κs =
 
 returns-2 : tie.Need-returns-2
 returns-2 c =
-    let x = c .before .before .before .before .before .before .before .before .args .x in
-    let p = c .before .before .before .before .before .before .before .before .args .p in
-    let h = c .before .before .before .before .before .before .before .before .pre .0 in
+    let S = c .before .before .before .before .before .before .before .before in
+    let x = S .args .x in
+    let p = S .args .p in
+    let h = S .pre .0 in
     let e = held x p h in
-    number-grown p x (c .before .before .before .before .read-bit .ensures) _ _ (c .before .before .before .before .before .before .threshold .ensures) (c .before .before .before .before .before .magnitude .ensures ∙ ap natAbs e) _ (c .before .if2 .taken) (not-false _ (c .before .before .if1 .left)) (kept-signed _ (negative x) (natAbs x + c .before .before .before .before .before .before .threshold .result) (c .grown .ensures ∙ ap (λ z. signed (negative z) (natAbs z + c .before .before .before .before .before .before .threshold .result)) e) (takes x p h _ (c .before .before .before .before .before .before .threshold .ensures)))
+    let lent = S .pre .1 .1 .lent in
+    let R = read-next lent (c .before .before .before .before .read-bit .ensures) in
+    let t = c .before .before .before .before .before .before .threshold .result in
+    number-grown p x R _ _ (c .before .before .before .before .before .before .threshold .ensures) (c .before .before .before .before .before .magnitude .ensures ∙ ap natAbs e) _ (c .before .if2 .taken) (not-false _ (c .before .before .if1 .left)) (kept-signed _ (negative x) (natAbs x + t) (c .grown .ensures ∙ ap (λ z. signed (negative z) (natAbs z + t)) e) (takes x p h _ (c .before .before .before .before .before .before .threshold .ensures)))
 
 read-bit-requires-2 : tie.Need-read-bit-requires-2
 read-bit-requires-2 c κs = search needs
 
 returns-3 : tie.Need-returns-3
 returns-3 c =
-    let x = c .before .before .before .before .before .before .before .before .before .args .x in
-    let p = c .before .before .before .before .before .before .before .before .before .args .p in
-    let h = c .before .before .before .before .before .before .before .before .before .pre .0 in
+    let S = c .before .before .before .before .before .before .before .before .before in
+    let x = S .args .x in
+    let p = S .args .p in
+    let h = S .pre .0 in
     let e = held x p h in
-    number-unsigned p x (c .before .before .before .before .before .read-bit .ensures) _ _ (c .before .before .before .before .before .before .before .threshold .ensures) (c .before .before .before .before .before .before .magnitude .ensures ∙ ap natAbs e) (c .before .read-bit2 .ensures) _ e (c .before .before .if2 .left) (not-false _ (c .before .before .before .if1 .left)) (c .if3 .taken)
+    let lent = S .pre .1 .1 .lent in
+    let R = read-next lent (c .before .before .before .before .before .read-bit .ensures) in
+    number-unsigned p x R _ _ (c .before .before .before .before .before .before .before .threshold .ensures) (c .before .before .before .before .before .before .magnitude .ensures ∙ ap natAbs e) (read-next lent (c .before .read-bit2 .ensures)) _ e (c .before .before .if2 .left) (not-false _ (c .before .before .before .if1 .left)) (c .if3 .taken)
 
 begun-requires : tie.Need-begun-requires
 begun-requires c κs =
@@ -62,11 +73,14 @@ begun-requires c κs =
 
 returns-4 : tie.Need-returns-4
 returns-4 c =
-    let x = c .before .before .before .before .before .before .before .before .before .before .args .x in
-    let p = c .before .before .before .before .before .before .before .before .before .before .args .p in
-    let h = c .before .before .before .before .before .before .before .before .before .before .pre .0 in
+    let S = c .before .before .before .before .before .before .before .before .before .before in
+    let x = S .args .x in
+    let p = S .args .p in
+    let h = S .pre .0 in
     let e = held x p h in
-    number-begun p x (c .before .before .before .before .before .before .read-bit .ensures) _ _ (c .before .before .before .before .before .before .before .before .threshold .ensures) (c .before .before .before .before .before .before .before .magnitude .ensures ∙ ap natAbs e) (c .before .before .read-bit2 .ensures) _ (c .before .before .before .if2 .left) (not-false _ (c .before .before .before .before .if1 .left)) (c .before .if3 .left) (kept-signed _ (c .before .before .read-bit2 .result .one) (c .before .before .before .before .before .before .before .before .threshold .result) (c .begun .ensures) (omega (arith, c .before .before .before .before .before .before .before .before .threshold .ensures, pow-lt (c .before .before .before .before .before .before .before .before .before .before .pre .1 .0))))
+    let lent = S .pre .1 .1 .lent in
+    let R = read-next lent (c .before .before .before .before .before .before .read-bit .ensures) in
+    number-begun p x R _ _ (c .before .before .before .before .before .before .before .before .threshold .ensures) (c .before .before .before .before .before .before .before .magnitude .ensures ∙ ap natAbs e) (read-next lent (c .before .before .read-bit2 .ensures)) _ (c .before .before .before .if2 .left) (not-false _ (c .before .before .before .before .if1 .left)) (c .before .if3 .left) (kept-signed _ (c .before .before .read-bit2 .result .one) (c .before .before .before .before .before .before .before .before .threshold .result) (c .begun .ensures) (omega (arith, c .before .before .before .before .before .before .before .before .threshold .ensures, pow-lt (S .pre .1 .0))))
 
 pub read-number-spec : {M : Type 1} → statement M
 read-number-spec =

@@ -1,3 +1,4 @@
+use Rattle.bits.proofs.OneBit.{read-next}
 -- `read_test` meets its contract.
 use Prim.Native.Nat.{suc}
 use Rattle.walk_laws.specs.Room.{room-in}
@@ -13,13 +14,15 @@ enum-told : tie.Need-enum-told
 enum-told c = search needs
 
 returns : tie.Need-returns
-returns c = test-open _ _ _ _ _ _ (c .before .before .scan .ensures) (c .before .match .keys1)
+returns c =
+    test-open _ _ _ _ _ _ (c .before .before .before .before .pre .1 .1) (c .before .before .scan .ensures) (c .before .match .keys1)
 
 read-bit-requires : tie.Need-read-bit-requires
 read-bit-requires c κs = search needs
 
 returns-2 : tie.Need-returns-2
-returns-2 c = test-bit _ _ _ _ _ _ _ _ (c .before .before .scan .ensures) (c .before .match .keys2) (c .read-bit .ensures)
+returns-2 c =
+    test-bit _ _ _ _ _ _ _ (c .before .before .scan .ensures) (c .before .match .keys2) (read-next (c .before .before .before .before .pre .1 .1 .lent) (c .read-bit .ensures))
 
 pub read-test-spec : {M : Type 1} → statement M
 read-test-spec = tie.close (tie.spec scan-requires enum-told returns read-bit-requires returns-2)

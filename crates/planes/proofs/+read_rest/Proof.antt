@@ -1,3 +1,5 @@
+use Rattle.decoder.proofs.Bits.{on}
+use mathlib.Core.Path.{_∙_}
 -- `read_rest` meets its contract. The measure is the length, of which each call of itself leaves out three sets.
 use Prim.Native.Nat.{suc, _+_, ℕ, _<_}
 use native.Mathlib.Omega.{arith}
@@ -28,7 +30,7 @@ read-rest-below t =
 
 read-rest-returns : (t : ℕ) → read-rest-lts.Need-returns (read-test-reads.Asked, read-test-reads.Learnt, read-set-reads.Asked, read-set-reads.Learnt, read-rest-below t, read-rest.Post) (read-rest-at t) read-rest.Post
 read-rest-returns t c =
-    ended-read _ _ _ _ _ _ (c .if1 .taken)
+    ended-read _ _ _ _ _ _ (c .if1 .taken) (c .before .before .pre .1 .1 .1 .0)
 
 read-rest-read-test-requires : (t : ℕ) → read-rest-lts.Need-read-test-requires (read-test-reads.Asked, read-test-reads.Learnt, read-set-reads.Asked, read-set-reads.Learnt, read-rest-below t, read-rest.Post) (read-rest-at t) read-rest.Post
 read-rest-read-test-requires t c κs = search needs
@@ -84,8 +86,9 @@ read-rest-read-set-requires t c κs =
     let xs = S .args .numbers .now in
     let q = S .args .q in
     let O = some-rest xs q (S .pre .1 .1 .1 .1) (c .before .before .before .before .before .if1 .left) in
+    let A = S .pre .1 .1 .1 .0 in
     let P = ready1 (suc (S .args .p)) xs q (O .d) (O .three) (O .is) (S .pre .1 .0) in
-    (P .room, (S .pre .1 .1 .0, (S .pre .1 .1 .1 .0, P .set)))
+    (P .room, (S .pre .1 .1 .0, (on A (c .before .before .before .read-test .ensures .near), P .set)))
 
 read-rest-mul-read-set : (t : ℕ) → read-rest-lts.Need-mul-read-set (read-test-reads.Asked, read-test-reads.Learnt, read-set-reads.Asked, read-set-reads.Learnt, read-rest-below t, read-rest.Post) (read-rest-at t) read-rest.Post
 read-rest-mul-read-set t c =
@@ -115,10 +118,12 @@ read-rest-read-set-requires-2 t c κs =
     let xs = S .args .numbers .now in
     let q = S .args .q in
     let O = some-rest xs q (S .pre .1 .1 .1 .1) (c .before .before .before .before .before .before .before .before .if1 .left) in
+    let A = S .pre .1 .1 .1 .0 in
     let z1 = c .before .before .read-set .last .0 in
     let k1 = c .before .before .read-set .kept .0 in
+    let B = ready1 (suc (S .args .p)) xs q (O .d) (O .three) (O .is) (S .pre .1 .0) in
     let P = ready2 (suc (S .args .p)) xs q (O .d) (O .three) (O .is) (S .pre .1 .0) z1 k1 in
-    (P .room, (S .pre .1 .1 .0, (S .pre .1 .1 .1 .0, P .set)))
+    (P .room, (S .pre .1 .1 .0, (on A (c .before .before .read-set .ensures .read (O .d) (B .size ∙ O .is) .near), P .set)))
 
 read-rest-mul-read-set-2 : (t : ℕ) → read-rest-lts.Need-mul-read-set-2 (read-test-reads.Asked, read-test-reads.Learnt, read-set-reads.Asked, read-set-reads.Learnt, read-rest-below t, read-rest.Post) (read-rest-at t) read-rest.Post
 read-rest-mul-read-set-2 t c =
@@ -148,12 +153,14 @@ read-rest-read-set-requires-3 t c κs =
     let xs = S .args .numbers .now in
     let q = S .args .q in
     let O = some-rest xs q (S .pre .1 .1 .1 .1) (c .before .before .before .before .before .before .before .before .before .before .before .if1 .left) in
+    let A = S .pre .1 .1 .1 .0 in
     let z1 = c .before .before .before .before .before .read-set .last .0 in
     let k1 = c .before .before .before .before .before .read-set .kept .0 in
     let z2 = c .before .before .read-set2 .last .0 in
     let k2 = c .before .before .read-set2 .kept .0 in
+    let B = ready2 (suc (S .args .p)) xs q (O .d) (O .three) (O .is) (S .pre .1 .0) z1 k1 in
     let P = ready3 (suc (S .args .p)) xs q (O .d) (O .three) (O .is) (S .pre .1 .0) z1 k1 z2 k2 in
-    (P .room, (S .pre .1 .1 .0, (S .pre .1 .1 .1 .0, P .set)))
+    (P .room, (S .pre .1 .1 .0, (on A (c .before .before .read-set2 .ensures .read (O .d) (B .size ∙ O .is) .near), P .set)))
 
 read-rest-mul-read-rest : (t : ℕ) → read-rest-lts.Need-mul-read-rest (read-test-reads.Asked, read-test-reads.Learnt, read-set-reads.Asked, read-set-reads.Learnt, read-rest-below t, read-rest.Post) (read-rest-at t) read-rest.Post
 read-rest-mul-read-rest t c =
@@ -200,13 +207,15 @@ read-rest-read-rest-requires t c κs =
     let xs = S .args .numbers .now in
     let q = S .args .q in
     let O = some-rest xs q (S .pre .1 .1 .1 .1) (c .before .before .before .before .before .before .before .before .before .before .before .before .before .before .if1 .left) in
+    let A = S .pre .1 .1 .1 .0 in
     let z1 = c .before .before .before .before .before .before .before .before .read-set .last .0 in
     let k1 = c .before .before .before .before .before .before .before .before .read-set .kept .0 in
     let z2 = c .before .before .before .before .before .read-set2 .last .0 in
     let k2 = c .before .before .before .before .before .read-set2 .kept .0 in
     let z3 = c .before .before .read-set3 .last .0 in
     let k3 = c .before .before .read-set3 .kept .0 in
-    (rest-shorter xs q O z1 k1 z2 k2 z3 k3 (S .pre .0), (room4 (suc (S .args .p)) xs q (O .d) (O .three) (O .is) (S .pre .1 .0) z1 k1 z2 k2 z3 k3, (S .pre .1 .1 .0, (S .pre .1 .1 .1 .0, rest-behind xs q O z1 k1 z2 k2 z3 k3))))
+    let B = ready3 (suc (S .args .p)) xs q (O .d) (O .three) (O .is) (S .pre .1 .0) z1 k1 z2 k2 in
+    (rest-shorter xs q O z1 k1 z2 k2 z3 k3 (S .pre .0), (room4 (suc (S .args .p)) xs q (O .d) (O .three) (O .is) (S .pre .1 .0) z1 k1 z2 k2 z3 k3, (S .pre .1 .1 .0, (on A (c .before .before .read-set3 .ensures .read (O .d) (B .size ∙ O .is) .near), rest-behind xs q O z1 k1 z2 k2 z3 k3))))
 
 read-rest-same-length-2 : (t : ℕ) → read-rest-lts.Need-same-length-2 (read-test-reads.Asked, read-test-reads.Learnt, read-set-reads.Asked, read-set-reads.Learnt, read-rest-below t, read-rest.Post) (read-rest-at t) read-rest.Post
 read-rest-same-length-2 t c =

@@ -1,8 +1,10 @@
+use Rattle.decoder.proofs.Bits.{on}
+use mathlib.Core.Path.{_∙_}
 -- `read_plane` meets its contract.
 use Prim.Native.Nat.{suc}
 use native.Mathlib.Omega.{arith}
 use borrow.Author.Needs.{needs}
-use Rattle.planes.proofs.Square.{first-fits, first-room, first-set, whole1, whole2, second-room, second-rest, plane-read}
+use Rattle.planes.proofs.Square.{first-fits, size-first, first-room, first-set, whole1, whole2, second-room, second-rest, plane-read}
 use Rattle.planes.proofs.read_plane.Statement.{statement}
 use Rattle.planes.proofs.read_plane.Tie as tie
 
@@ -63,7 +65,7 @@ read-rest-requires c κs =
     let K = S .pre .1 .1 .1 in
     let z1 = c .before .before .read-set .last .0 in
     let k1 = c .before .before .read-set .kept .0 in
-    (second-room xs q K z1 k1 (suc (S .args .p)) (S .pre .0), (S .pre .1 .0, (S .pre .1 .1 .0, second-rest xs q K z1 k1)))
+    (second-room xs q K z1 k1 (suc (S .args .p)) (S .pre .0), (S .pre .1 .0, (on (S .pre .1 .1 .0) (c .before .before .read-set .ensures .read (K .d) (size-first xs q K ∙ K .is) .near), second-rest xs q K z1 k1)))
 
 same-length : tie.Need-same-length
 same-length c =

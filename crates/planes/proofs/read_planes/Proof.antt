@@ -12,7 +12,7 @@ abbrev μ-loop : tie.MeasureT-loop
 
 loop-holds : tie.Need-loop-holds Inv-loop μ-loop
 loop-holds c =
-    before-first _ _ _ _ _ (c .before .pre .0) (c .before .pre .1 .0) (c .before .pre .1 .1 .1)
+    let S = c .before in before-first _ _ _ _ _ (S .pre .0) (S .pre .1 .0) (S .pre .1 .1 .0) (S .pre .1 .1 .1)
 
 sub-plane : tie.Need-sub-plane Inv-loop μ-loop
 sub-plane c = search needs
@@ -21,7 +21,7 @@ read-plane-requires : tie.Need-read-plane-requires Inv-loop μ-loop
 read-plane-requires c κs =
     let B = c .before .before .loop .inv in
     let h = c .before .loop-test .taken in
-    (plane-room B h, (plane-low B h, (c .before .before .before .before .pre .1 .1 .0, B .square)))
+    (plane-room B h, (plane-low B h, (B .source, B .square)))
 
 same-length : tie.Need-same-length Inv-loop μ-loop
 same-length c = search needs
