@@ -12,7 +12,7 @@ use Rattle.paper.specs.Square.{numbersOf, greysOf, pictured}
 use Rattle.paper.specs.Walk.{planeCount, codeOf, decodeOf, Settled}
 use Rattle.paper.specs.Bits.{bits, laid}
 use Rattle.paper.specs.Block.{isLabel, byteAt, payloadBytes, payloadStart, blockRefusal}
-use Rattle.paper.specs.Record.{blocksFor, recordOf, wholeBlocks, blockAt, turnRefusal, Run, runOf, bitsKept, payloadKept}
+use Rattle.paper.specs.Record.{blocksFor, recordOf, wholeBlocks, refusalAt, Run, runOf, bitsKept, payloadKept}
 
 -- rows 1 and 2, which five jobs judge first
 unfoldable pub sizesRefusal : ℕ → ℕ → ℕ → ℕ
@@ -134,7 +134,7 @@ pub record Read : Type 0 where
 unfoldable pub readingRefusal : List ℕ → List ℕ → List ℕ → ℕ
 readingRefusal s label room =
     unless 6 (leb 512 (length s) && leb (payloadBytes payloadStart * wholeBlocks s) (length room))
-    (unless 7 (isLabel label) (turnRefusal s label 0))
+    (unless 7 (isLabel label) (refusalAt s label 0))
 
 abbrev pub readRun : List ℕ → List ℕ → Run → Read
 readRun s room run = record {

@@ -34,19 +34,24 @@ wholeBlocks s = length s / 512
 abbrev pub blockAt : List ℕ → ℕ → List ℕ
 blockAt s i = take 512 (drop (512 * i) s)
 
--- numbered in its turn, with bytes 0 to 11 like block 0 and the label expected
-unfoldable pub inTurn : List ℕ → List ℕ → ℕ → Bool
-inTurn s label i =
-    eqb (numberOf (blockAt s i)) i
-    && sameBytes (take 12 (blockAt s i)) (take 12 (blockAt s 0))
-    && sameBytes (labelOf (blockAt s i)) label
+-- what block 0 said, in which the blocks of a record agree: its bytes 0 to 11
+abbrev pub said : List ℕ → List ℕ
+said block = take 12 block
 
--- why block i can't be kept: 8, 9 or 10; 0 if it can
-unfoldable pub turnRefusal : List ℕ → List ℕ → ℕ → ℕ
-turnRefusal s label i = unless (blockRefusal (blockAt s i)) (eqb (blockRefusal (blockAt s i)) 0) (unless 10 (inTurn s label i) 0)
+-- a block in its turn i: numbered so, with bytes 0 to 11 as block 0 said and the label expected
+unfoldable pub inTurn : List ℕ → List ℕ → ℕ → List ℕ → Bool
+inTurn first label i block = eqb (numberOf block) i && sameBytes (said block) first && sameBytes (labelOf block) label
 
-abbrev pub isFull : List ℕ → ℕ → Bool
-isFull s i = eqb (countOf (blockAt s i)) (payloadBits payloadStart)
+-- why a block can't be kept in its turn: its own refusal, 8 or 9, before 10; 0 if it can
+unfoldable pub turnRefusal : List ℕ → List ℕ → ℕ → List ℕ → ℕ
+turnRefusal first label i block = unless (blockRefusal block) (eqb (blockRefusal block) 0) (unless 10 (inTurn first label i block) 0)
+
+abbrev pub isFull : List ℕ → Bool
+isFull block = eqb (countOf block) (payloadBits payloadStart)
+
+-- block i of s in its turn
+abbrev pub refusalAt : List ℕ → List ℕ → ℕ → ℕ
+refusalAt s label i = turnRefusal (said (blockAt s 0)) label i (blockAt s i)
 
 -- the blocks kept, and the number of the block that ended the run: 0 if none or if a short block ended it
 pub record Run : Type 0 where
@@ -56,8 +61,8 @@ pub record Run : Type 0 where
 -- the longest run, from block i on, where `left` whole blocks are left
 unfoldable pub runFrom : List ℕ → List ℕ → ℕ → ℕ → Run
 runFrom s label zero i = record { kept = i; ended = 0 }
-runFrom s label (suc left) i = elim (turnRefusal s label i) [
-  | zero ↦ elim (isFull s i) [ true ↦ runFrom s label left (suc i) | false ↦ record { kept = suc i; ended = 0 } ]
+runFrom s label (suc left) i = elim (refusalAt s label i) [
+  | zero ↦ elim (isFull (blockAt s i)) [ true ↦ runFrom s label left (suc i) | false ↦ record { kept = suc i; ended = 0 } ]
   | suc r ↦ record { kept = i; ended = suc r }
 ]
 

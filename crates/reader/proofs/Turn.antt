@@ -10,8 +10,8 @@ use lib.Dec.{eqb}
 use lib.ListN.{length, take, drop}
 use borrow.Author.Tests.{eq-eqb, ne-eqb}
 use Rattle.paper.specs.Sizes.{unless}
-use Rattle.paper.specs.Block.{sameBytes, labelOf, numberOf, countOf, blockRefusal}
-use Rattle.paper.specs.Record.{blockAt, inTurn, turnRefusal, isFull, Run, runFrom, runOf, bitsKept}
+use Rattle.paper.specs.Block.{countOf, blockRefusal}
+use Rattle.paper.specs.Record.{blockAt, inTurn, turnRefusal, refusalAt, isFull, Run, runFrom, runOf, bitsKept}
 
 -- ---- three tests, one after the other
 pub first-fails : {a : Bool} (b c : Bool) → a ≡ false → false ≡ (a && b && c)
@@ -27,20 +27,17 @@ third-decides c e f = λ t. sym e t && sym f t && c
 pub part-is : (s : List ℕ) (i : ℕ) → take (512 * i + 512 - 512 * i) (drop (512 * i) s) ≡ blockAt s i
 part-is s i = ap (λ n. take n (drop (512 * i) s)) (add-sub-cancel-left (512 * i) 512)
 
-module _ (s label : List ℕ) (i : ℕ) where
-  pub turn-fails : (r : ℕ) → r ≡ blockRefusal (blockAt s i) → 0 < r → r ≡ turnRefusal s label i
+-- ---- a block in its turn
+module _ (first label : List ℕ) (i : ℕ) (block : List ℕ) where
+  pub turn-fails : (r : ℕ) → r ≡ blockRefusal block → 0 < r → r ≡ turnRefusal first label i block
   unfolding turnRefusal
   turn-fails r e h =
       let failed : eqb r 0 ≡ false = ne-eqb r 0 (λ z. omega arith) in
-      sym (ap (λ f. unless r f (unless 10 (inTurn s label i) 0)) failed) ∙ ap (λ r. unless r (eqb r 0) (unless 10 (inTurn s label i) 0)) e
+      sym (ap (λ f. unless r f (unless 10 (inTurn first label i block) 0)) failed) ∙ ap (λ r. unless r (eqb r 0) (unless 10 (inTurn first label i block) 0)) e
 
-  pub turn-judged : (r : ℕ) (fits : Bool) → r ≡ blockRefusal (blockAt s i) → r ≡ 0
-      → fits ≡ (eqb (numberOf (blockAt s i)) i && sameBytes (take 12 (blockAt s i)) (take 12 (blockAt s 0)) && sameBytes (labelOf (blockAt s i)) label)
-      → unless 10 fits 0 ≡ turnRefusal s label i
-  unfolding turnRefusal inTurn
-  turn-judged r fits e z f =
-      let passed : 0 ≡ blockRefusal (blockAt s i) = sym z ∙ e in
-      ap (λ g. unless 10 g 0) f ∙ ap (λ r. unless r (eqb r 0) (unless 10 (inTurn s label i) 0)) passed
+  pub turn-judged : (r : ℕ) (fits : Bool) → r ≡ blockRefusal block → r ≡ 0 → fits ≡ inTurn first label i block → unless 10 fits 0 ≡ turnRefusal first label i block
+  unfolding turnRefusal
+  turn-judged r fits e z f = ap (λ g. unless 10 g 0) f ∙ ap (λ r. unless r (eqb r 0) (unless 10 (inTurn first label i block) 0)) (sym z ∙ e)
 
 -- ---- a step of the run
 abbrev after : List ℕ → List ℕ → ℕ → ℕ → ℕ → Bool → Run
@@ -50,25 +47,25 @@ after s label left i r full = elim r [
 ]
 
 module _ (s label : List ℕ) (whole i : ℕ) (h : i < whole) where
-  step : runFrom s label (whole - i) i ≡ after s label (whole - (i + 1)) i (turnRefusal s label i) (isFull s i)
+  step : runFrom s label (whole - i) i ≡ after s label (whole - (i + 1)) i (refusalAt s label i) (isFull (blockAt s i))
   unfolding runFrom
   step = let e : whole - i ≡ suc (whole - (i + 1)) = omega arith in ap (λ left. runFrom s label left i) e
 
-  pub run-fails : (r : ℕ) → r ≡ turnRefusal s label i → 0 < r → runFrom s label (whole - i) i ≡ record { kept = i; ended = r }
-  run-fails r e g = step ∙ ap (λ r. after s label (whole - (i + 1)) i r (isFull s i)) (sym e) ∙ failed r g
+  pub run-fails : (r : ℕ) → r ≡ refusalAt s label i → 0 < r → runFrom s label (whole - i) i ≡ record { kept = i; ended = r }
+  run-fails r e g = step ∙ ap (λ r. after s label (whole - (i + 1)) i r (isFull (blockAt s i))) (sym e) ∙ failed r g
     where
-      failed : (r : ℕ) → 0 < r → after s label (whole - (i + 1)) i r (isFull s i) ≡ record { kept = i; ended = r }
+      failed : (r : ℕ) → 0 < r → after s label (whole - (i + 1)) i r (isFull (blockAt s i)) ≡ record { kept = i; ended = r }
       failed zero g = absurd (omega arith)
       failed (suc r) g = refl
 
   -- a block that passes
-  passed : {r : ℕ} {full : Bool} → r ≡ turnRefusal s label i → r ≡ 0 → isFull s i ≡ full → runFrom s label (whole - i) i ≡ after s label (whole - (i + 1)) i 0 full
+  passed : {r : ℕ} {full : Bool} → r ≡ refusalAt s label i → r ≡ 0 → isFull (blockAt s i) ≡ full → runFrom s label (whole - i) i ≡ after s label (whole - (i + 1)) i 0 full
   passed e z f = step ∙ (λ t. after s label (whole - (i + 1)) i ((sym e ∙ z) t) (f t))
 
-  pub run-short : (r count : ℕ) → r ≡ turnRefusal s label i → r ≡ 0 → count ≡ countOf (blockAt s i) → (count ≡ 3936 → ⊥) → runFrom s label (whole - i) i ≡ record { kept = i + 1; ended = 0 }
+  pub run-short : (r count : ℕ) → r ≡ refusalAt s label i → r ≡ 0 → count ≡ countOf (blockAt s i) → (count ≡ 3936 → ⊥) → runFrom s label (whole - i) i ≡ record { kept = i + 1; ended = 0 }
   run-short r count e z c short = passed e z (ne-eqb _ _ (λ f. short (c ∙ f))) ∙ ap (λ j. record { kept = j; ended = 0 }) (sym (add-one i))
 
-  pub run-more : (r count : ℕ) → r ≡ turnRefusal s label i → r ≡ 0 → count ≡ countOf (blockAt s i) → count ≡ 3936 → runFrom s label (whole - i) i ≡ runFrom s label (whole - (i + 1)) (i + 1)
+  pub run-more : (r count : ℕ) → r ≡ refusalAt s label i → r ≡ 0 → count ≡ countOf (blockAt s i) → count ≡ 3936 → runFrom s label (whole - i) i ≡ runFrom s label (whole - (i + 1)) (i + 1)
   run-more r count e z c full = passed e z (eq-eqb _ _ (sym c ∙ full)) ∙ ap (runFrom s label (whole - (i + 1))) (sym (add-one i))
 
 pub run-ends : (s label : List ℕ) (whole i : ℕ) → i ≡ whole → runFrom s label (whole - i) i ≡ record { kept = i; ended = 0 }

@@ -1,13 +1,11 @@
 // What a reader keeps of lent blocks: a pass that only looks, and a pass that copies the kept payload.
 ghost use mathlib.Core.Path.{_≡_};
 ghost use mathlib.Core.List.{_++_};
-ghost use mathlib.Core.Bool.{_&&_};
 ghost use Prim.Native.Nat.{_+_, _*_, _<_, _≤_};
-ghost use lib.Dec.{eqb};
 ghost use lib.ListN.{length, take, drop};
 ghost use Rattle.paper.specs.Lists.{joined, over};
-ghost use Rattle.paper.specs.Block.{sameBytes, labelOf, numberOf, countOf, payloadOf, payloadStart, payloadBytes, payloadBits};
-ghost use Rattle.paper.specs.Record.{blockAt, wholeBlocks, turnRefusal, runOf, bitsKept, payloadKept};
+ghost use Rattle.paper.specs.Block.{countOf, payloadOf, payloadStart, payloadBytes, payloadBits};
+ghost use Rattle.paper.specs.Record.{blockAt, wholeBlocks, inTurn, turnRefusal, refusalAt, runOf, bitsKept, payloadKept};
 
 // The bytes of a block, of its payload, and the payload's bits; where the payload starts, and where the checks stand.
 const BLOCK: usize = 512;
@@ -20,40 +18,46 @@ const PAYLOAD_START: usize = 16;
 
 const CHECKS: usize = 508;
 
-// Numbered in its turn, with bytes 0 to 11 like block 0 and the label expected.
-fn in_turn(block: &[u8], first: &[u8], label: &[u8], i: usize) -> bool
+// In its turn i: numbered so, with bytes 0 to 11 as block 0 said and the label expected.
+fn in_turn(first: &[u8], label: &[u8], i: usize, block: &[u8]) -> bool
     requires { ⌜ length (now block) ≡ 512 ⌝ }
-    requires { ⌜ length (now first) ≡ 512 ⌝ }
-    ensures { λ r. ⌜ r ≡ (eqb (numberOf (now (block .entry))) i && sameBytes (take 12 (now (block .entry))) (take 12 (now (first .entry))) && sameBytes (labelOf (now (block .entry))) (now (label .entry))) ⌝ }
+    ensures { λ r. ⌜ r ≡ inTurn (now (first .entry)) (now (label .entry)) i (now (block .entry)) ⌝ }
 {
     if fields::pair_at(block, 12) != i {
         return false;
     }
-    if !fields::same_bytes(&block[0..12], &first[0..12]) {
+    if !fields::same_bytes(&block[0..12], first) {
         return false;
     }
     let name = &block[4..12];
     fields::same_bytes(name, label)
 }
 
-// Why block i can't be kept: 8, 9 or 10; 0 if it can.
-pub fn turn_refusal(blocks: &[u8], label: &[u8], i: usize) -> u32
-    requires { ⌜ 512 * i + 512 ≤ length (now blocks) ⌝ }
-    ensures { λ r. ⌜ r ≡ turnRefusal (now (blocks .entry)) (now (label .entry)) i ⌝ }
+// The judge of one block in its turn, by what block 0 said: why it can't be kept, 8, 9 or 10; 0 if it can.
+// Bytes that are no block at all are refused by 6, as the single-block check does.
+pub fn turn_refusal(first: &[u8], label: &[u8], i: usize, block: &[u8]) -> u32
+    ensures { λ r. ⌜ r ≡ turnRefusal (now (first .entry)) (now (label .entry)) i (now (block .entry)) ⌝ }
 {
-    let start = BLOCK * i;
-    let end = start + BLOCK;
-    let first = &blocks[0..BLOCK];
-    let block = &blocks[start..end];
     let refusal = block::check(block);
     if refusal > 0 {
         return refusal;
     }
-    if in_turn(block, first, label, i) {
+    if in_turn(first, label, i, block) {
         0
     } else {
         10
     }
+}
+
+// Block i of lent blocks, judged in its turn.
+fn refusal_at(blocks: &[u8], label: &[u8], i: usize) -> u32
+    requires { ⌜ 512 * i + 512 ≤ length (now blocks) ⌝ }
+    ensures { λ r. ⌜ r ≡ refusalAt (now (blocks .entry)) (now (label .entry)) i ⌝ }
+{
+    let start = BLOCK * i;
+    let end = start + BLOCK;
+    let first = &blocks[0..BLOCK];
+    turn_refusal(&first[0..12], label, i, &blocks[start..end])
 }
 
 // The payload bits in block i.
@@ -78,7 +82,7 @@ pub fn longest_run(blocks: &[u8], label: &[u8]) -> Run
     let whole = blocks.len() / BLOCK;
     let mut i = 0;
     while i < whole {
-        let refusal = turn_refusal(blocks, label, i);
+        let refusal = refusal_at(blocks, label, i);
         if refusal > 0 {
             return Run {
                 kept: i,

@@ -10,7 +10,7 @@ use borrow.Author.Tests.{leb-true}
 use Rattle.paper.specs.Sizes.{unless, judged}
 use Rattle.paper.specs.Lists.{over}
 use Rattle.paper.specs.Block.{isLabel, byteAt}
-use Rattle.paper.specs.Record.{wholeBlocks, turnRefusal, runOf, bitsKept, payloadKept}
+use Rattle.paper.specs.Record.{wholeBlocks, refusalAt, runOf, bitsKept, payloadKept}
 use Rattle.paper.specs.Jobs.{readingRefusal, readRun, readingJob}
 use Rattle.sizes.proofs.Ranges.{both-first, both-second}
 use Rattle.sizes.proofs.Refusals.{row-passed, refused-is, done-is}
@@ -31,12 +31,12 @@ pub record Usable (s : List ℕ) (kept : ℕ) : Type 0 where
 module _ (s label room : List ℕ) where
   pub lent-refused : {r : ℕ} → r ≡ lent (length s) label (length room) → 0 < r → readingRefusal s label room ≡ r
   unfolding readingRefusal
-  lent-refused {r} e h = rows-stand 5 6 (leb 512 (length s) && leb (492 * (length s / 512)) (length room)) (isLabel label) (turnRefusal s label 0) (omega arith) ∙ sym e
+  lent-refused {r} e h = rows-stand 5 6 (leb 512 (length s) && leb (492 * (length s / 512)) (length room)) (isLabel label) (refusalAt s label 0) (omega arith) ∙ sym e
 
   module _ (passed : lent (length s) label (length room) ≡ 0) where
-    pub lent-passed : readingRefusal s label room ≡ turnRefusal s label 0
+    pub lent-passed : readingRefusal s label room ≡ refusalAt s label 0
     unfolding readingRefusal
-    lent-passed = two-rows 5 6 (leb 512 (length s) && leb (492 * (length s / 512)) (length room)) (isLabel label) (turnRefusal s label 0) passed
+    lent-passed = two-rows 5 6 (leb 512 (length s) && leb (492 * (length s / 512)) (length room)) (isLabel label) (refusalAt s label 0) passed
 
     pub lent-both : (512 ≤ length s) × (492 * (length s / 512) ≤ length room)
     lent-both =

@@ -12,7 +12,7 @@ use borrow.Author.Tests.{eq-eqb, le-leb}
 use Rattle.paper.specs.Lists.{joined, parts, over}
 use Rattle.paper.specs.Bits.{bits, packed}
 use Rattle.paper.specs.Block.{byteAt, edition, payloadStart, countOf, payloadOf}
-use Rattle.paper.specs.Record.{blocksFor, blockOf, recordOf, wholeBlocks, blockAt, inTurn, turnRefusal, isFull, runFrom, runOf, bitsKept, payloadKept}
+use Rattle.paper.specs.Record.{blocksFor, blockOf, recordOf, wholeBlocks, blockAt, inTurn, turnRefusal, refusalAt, isFull, runFrom, runOf, bitsKept, payloadKept}
 use Rattle.paper.specs.Sizes.{judged}
 use Rattle.paper.specs.Jobs.{Read, readingRefusal, readRun, readingJob}
 use Rattle.block.proofs.Blocks.{label-length, same-bytes-refl}
@@ -82,7 +82,7 @@ module _ (k L n : ℕ) (label : List ℕ) (l : List Bool) (w : Writable k L n la
     numbered : (i : ℕ) → i < j → i < 65536
     numbered i h = omega (arith, w .few)
 
-    pub written-turn : (i : ℕ) → i < j → turnRefusal s label i ≡ 0
+    pub written-turn : (i : ℕ) → i < j → refusalAt s label i ≡ 0
     unfolding turnRefusal inTurn
     written-turn i h =
         rw (
@@ -98,7 +98,7 @@ module _ (k L n : ℕ) (label : List ℕ) (l : List Bool) (w : Writable k L n la
           same-bytes-refl label,
         )
 
-    pub written-full : (i : ℕ) → suc i < j → isFull s i ≡ true
+    pub written-full : (i : ℕ) → suc i < j → isFull (blockAt s i) ≡ true
     written-full i h = eq-eqb _ _ (ap countOf (same i (omega arith)) ∙ count-of-block k L n label l w i ∙ length-of-block l i ∙ omega arith)
 
     pub written-bits : bitsKept s j ≡ bitsIn l j

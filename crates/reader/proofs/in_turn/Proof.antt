@@ -1,5 +1,6 @@
 -- `in_turn`: three tests, each by what its callee ensures.
 use native.Mathlib.Omega.{arith}
+use Rattle.paper.specs.Record.{inTurn}
 use Rattle.reader.proofs.Turn.{first-fails, second-fails, third-decides}
 use borrow.Author.Tests.{eq-eqb, ne-eqb, not-true, not-false}
 use mathlib.Core.Path.{sym, _∙_}
@@ -10,6 +11,7 @@ pair-at-requires : tie.Need-pair-at-requires
 pair-at-requires c κs = omega arith
 
 returns : tie.Need-returns
+unfolding inTurn
 returns c =
     first-fails _ _ (ne-eqb _ _ (λ e. c .if1 .taken (c .before .pair-at .ensures ∙ e)))
 
@@ -22,21 +24,13 @@ part-same-bytes-start c = omega arith
 part-same-bytes-end : tie.Need-part-same-bytes-end
 part-same-bytes-end c = omega arith
 
-sub-same-bytes-2 : tie.Need-sub-same-bytes-2
-sub-same-bytes-2 c = omega arith
-
-part-same-bytes-start-2 : tie.Need-part-same-bytes-start-2
-part-same-bytes-start-2 c = omega arith
-
-part-same-bytes-end-2 : tie.Need-part-same-bytes-end-2
-part-same-bytes-end-2 c = omega arith
-
 same-bytes-requires : tie.Need-same-bytes-requires
 same-bytes-requires c κs = omega arith
 
 returns-2 : tie.Need-returns-2
+unfolding inTurn
 returns-2 c =
-    second-fails _ (eq-eqb _ _ (sym (c .before .before .before .before .before .pair-at .ensures) ∙ c .before .before .before .before .if1 .left)) (sym (c .before .same-bytes .ensures) ∙ not-true _ (c .if2 .taken))
+    second-fails _ (eq-eqb _ _ (sym (c .before .before .before .before .pair-at .ensures) ∙ c .before .before .before .if1 .left)) (sym (c .before .same-bytes .ensures) ∙ not-true _ (c .if2 .taken))
 
 sub-name : tie.Need-sub-name
 sub-name c = omega arith
@@ -51,8 +45,9 @@ same-bytes-requires-2 : tie.Need-same-bytes-requires-2
 same-bytes-requires-2 c κs = omega arith
 
 returns-3 : tie.Need-returns-3
+unfolding inTurn
 returns-3 c =
-    c .same-bytes2 .ensures ∙ third-decides _ (eq-eqb _ _ (sym (c .before .before .before .before .before .before .before .pair-at .ensures) ∙ c .before .before .before .before .before .before .if1 .left)) (sym (c .before .before .before .same-bytes .ensures) ∙ not-false _ (c .before .before .if2 .left))
+    c .same-bytes2 .ensures ∙ third-decides _ (eq-eqb _ _ (sym (c .before .before .before .before .before .before .pair-at .ensures) ∙ c .before .before .before .before .before .if1 .left)) (sym (c .before .before .before .same-bytes .ensures) ∙ not-false _ (c .before .before .if2 .left))
 
 pub in-turn-spec : {M : Type 1} → statement M
 in-turn-spec =
@@ -63,9 +58,6 @@ in-turn-spec =
     sub-same-bytes
     part-same-bytes-start
     part-same-bytes-end
-    sub-same-bytes-2
-    part-same-bytes-start-2
-    part-same-bytes-end-2
     same-bytes-requires
     returns-2
     sub-name

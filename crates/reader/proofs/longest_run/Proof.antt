@@ -19,14 +19,14 @@ loop-holds c =
     let args = c .before .before .args in
     (omega arith, run-start (args .blocks .now) (args .label .now))
 
-turn-refusal-requires : tie.Need-turn-refusal-requires Inv-loop μ-loop
-turn-refusal-requires c κs = omega arith
+refusal-at-requires : tie.Need-refusal-at-requires Inv-loop μ-loop
+refusal-at-requires c κs = omega arith
 
 returns : tie.Need-returns Inv-loop μ-loop
 returns c =
     let args = c .before .before .before .before .before .before .args in
     let at = c .before .before .before .loop in
-    at .inv .1 ∙ run-fails (args .blocks .now) (args .label .now) (length (args .blocks .now) / 512) (at .i) (omega arith) (c .before .turn-refusal .result) (c .before .turn-refusal .ensures) (omega arith)
+    at .inv .1 ∙ run-fails (args .blocks .now) (args .label .now) (length (args .blocks .now) / 512) (at .i) (omega arith) (c .before .refusal-at .result) (c .before .refusal-at .ensures) (omega arith)
 
 count-at-requires : tie.Need-count-at-requires Inv-loop μ-loop
 count-at-requires c κs = omega arith
@@ -38,7 +38,7 @@ returns-2 : tie.Need-returns-2 Inv-loop μ-loop
 returns-2 c =
     let args = c .before .before .before .before .before .before .before .before .args in
     let at = c .before .before .before .before .before .loop in
-    at .inv .1 ∙ run-short (args .blocks .now) (args .label .now) (length (args .blocks .now) / 512) (at .i) (omega arith) (c .before .before .before .turn-refusal .result) (c .before .count-at .result) (c .before .before .before .turn-refusal .ensures) (omega arith) (c .before .count-at .ensures) (c .if2 .taken)
+    at .inv .1 ∙ run-short (args .blocks .now) (args .label .now) (length (args .blocks .now) / 512) (at .i) (omega arith) (c .before .before .before .refusal-at .result) (c .before .count-at .result) (c .before .before .before .refusal-at .ensures) (omega arith) (c .before .count-at .ensures) (c .if2 .taken)
 
 add-i : tie.Need-add-i Inv-loop μ-loop
 add-i c = omega arith
@@ -51,7 +51,7 @@ loop-again : tie.Need-loop-again Inv-loop μ-loop
 loop-again c =
     let args = c .before .before .before .before .before .before .before .before .args in
     let at = c .before .before .before .before .before .loop in
-    (omega arith, at .inv .1 ∙ run-more (args .blocks .now) (args .label .now) (length (args .blocks .now) / 512) (at .i) (omega arith) (c .before .before .before .turn-refusal .result) (c .before .count-at .result) (c .before .before .before .turn-refusal .ensures) (omega arith) (c .before .count-at .ensures) (c .if2 .left))
+    (omega arith, at .inv .1 ∙ run-more (args .blocks .now) (args .label .now) (length (args .blocks .now) / 512) (at .i) (omega arith) (c .before .before .before .refusal-at .result) (c .before .count-at .result) (c .before .before .before .refusal-at .ensures) (omega arith) (c .before .count-at .ensures) (c .if2 .left))
 
 returns-3 : tie.Need-returns-3 Inv-loop μ-loop
 returns-3 c =
@@ -66,7 +66,7 @@ longest-run-spec =
     Inv-loop
     μ-loop
     loop-holds
-    turn-refusal-requires
+    refusal-at-requires
     returns
     count-at-requires
     add-t9
