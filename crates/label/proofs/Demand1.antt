@@ -11,7 +11,7 @@ use lib.ListN.{length, take, drop, length-take, length-drop}
 use borrow.Author.Tests.{leb-true, eq-eqb}
 use Rattle.paper.specs.Sizes.{sizeIn, levelsIn, planesIn, numbersIn, mostBits, unless, judged}
 use Rattle.paper.specs.Block.{isLabel, payloadBytes, payloadStart, checksRight, fieldsRight, blockRefusal}
-use Rattle.paper.specs.Record.{blocksFor, wholeBlocks, blockAt, inTurn, turnRefusal}
+use Rattle.paper.specs.Record.{blocksFor, wholeBlocks, blockAt, said, inTurn, turnRefusal}
 use Rattle.paper.specs.Jobs.{sizesRefusal, isSquare, Forward, forwardRefusal, forwardJob, Coding, codingRefusal, codingJob, Decoding, decodingRefusal, decodingJob, Inverse, inverseRefusal, inverseJob, Writing, writingRefusal, writingJob, Read, readingRefusal, readingJob, checkJob}
 use Rattle.sizes.proofs.Ranges.{both-first}
 use Rattle.label.specs.Table.{Row, row, Lowest, Refuses, forwardRows, codingRows, decodingRows, inverseRows, writingRows, readingRows, checkRows}
@@ -67,9 +67,9 @@ module _ (s label room : List ℕ) where
       turn false c f t e = absurd (let z : _≡_ {A = ℕ} 0 1 = cc in omega arith)
 
       go : (a b : Bool) → leb 512 (length s) ≡ a
-          → unless 6 (a && b) (unless 7 (isLabel label) (unless (unless 6 (eqb (length B) 512) (unless 8 (checksRight B) (unless 9 (fieldsRight payloadStart B) 0))) (eqb (unless 6 (eqb (length B) 512) (unless 8 (checksRight B) (unless 9 (fieldsRight payloadStart B) 0))) 0) (unless 10 (inTurn s label 0) 0)))
-          ≡ unless 6 (a && b) (unless 7 (isLabel label) (unless 8 (checksRight B) (unless 9 (fieldsRight payloadStart B) (unless 10 (inTurn s label 0) 0))))
-      go true true e = ap (unless 7 (isLabel label)) (turn (eqb (length B) 512) (checksRight B) (fieldsRight payloadStart B) (inTurn s label 0) (whole-first s (leb-true 512 (length s) e)))
+          → unless 6 (a && b) (unless 7 (isLabel label) (unless (unless 6 (eqb (length B) 512) (unless 8 (checksRight B) (unless 9 (fieldsRight payloadStart B) 0))) (eqb (unless 6 (eqb (length B) 512) (unless 8 (checksRight B) (unless 9 (fieldsRight payloadStart B) 0))) 0) (unless 10 (inTurn (said B) label 0 B) 0)))
+          ≡ unless 6 (a && b) (unless 7 (isLabel label) (unless 8 (checksRight B) (unless 9 (fieldsRight payloadStart B) (unless 10 (inTurn (said B) label 0 B) 0))))
+      go true true e = ap (unless 7 (isLabel label)) (turn (eqb (length B) 512) (checksRight B) (fieldsRight payloadStart B) (inTurn (said B) label 0 B) (whole-first s (leb-true 512 (length s) e)))
       go true false e = refl
       go false b e = refl
 

@@ -2,11 +2,12 @@
 -- settled, zero for the rest, all of them written, with the true count of unfinished planes.
 use mathlib.Core.Path.{_≡_, refl, sym, ap, _∙_, subst}
 use mathlib.Core.Bool.{Bool, true, false}
-use mathlib.Core.List.{List}
+use mathlib.Core.List.{List, _++_}
 use Prim.Native.Nat.{ℕ, suc, _+_, _*_, _-_, _/_, _^_, _<_, _≤_, min}
 use native.Mathlib.Omega.{arith}
 use lib.IntN.{ℤ}
 use lib.ListN.{length, take}
+use lib.Seq.{length-take-le}
 use borrow.Author.Tests.{eq-eqb, le-leb}
 use Rattle.paper.specs.Sizes.{sizeIn, levelsIn, planesIn}
 use Rattle.paper.specs.Square.{greysOf, pictured}
@@ -16,8 +17,10 @@ use Rattle.paper.specs.Record.{blocksFor}
 use Rattle.paper.specs.Jobs.{Decoding, decodingRefusal, settledJob, decodingJob, Writing, writingJob, writtenOf, Read, Inverse}
 use Rattle.sizes.proofs.Ranges.{levels-less}
 use Rattle.sizes.proofs.Refusals.{sizes-passed, done-is}
+use Rattle.bits.proofs.OneBit.{bits-length}
 use Rattle.square_laws.specs.Picture.{lossless}
 use Rattle.walk_laws.specs.Decoded.{all-bits}
+use Rattle.walk_laws.specs.Unfinished.{AllRead, planesRead, unfinished-true}
 use Rattle.record_laws.specs.BothJobs.{written}
 use Rattle.record_laws.specs.ReadBack.{bitsIn, every-bit, readBack}
 use Rattle.label.specs.Journey.{intoRecord, Seen, outOfRecord}
@@ -29,6 +32,15 @@ pub any-bits : (k L n : ℕ) (numbers : List ℤ) (bytes : List ℕ) (b : ℕ) �
     → decodingJob k L n numbers bytes b ≡ settledJob (decodeOf k L n (take b (bits bytes)))
 unfolding decodingJob decodingRefusal
 any-bits k L n numbers bytes b s l e p h = done-is _ _ _ (sizes-passed k L _ s l ∙ rw (eq-eqb (length numbers) (4 ^ k) e, p, le-leb b (8 * length bytes) h))
+
+-- The count of unfinished planes is the true one: n less the planes whose every bit is among the b bits, whatever bits r behind
+-- them make every plane whole (there are such r: `most-read`).
+pub any-bits-unfinished : (k L n : ℕ) (numbers : List ℤ) (bytes : List ℕ) (b : ℕ) → sizeIn k ≡ true → levelsIn k L ≡ true → length numbers ≡ 4 ^ k → planesIn n ≡ true → b ≤ 8 * length bytes
+    → (r : List Bool) → AllRead k L n 0 (take b (bits bytes) ++ r)
+    → (decodingJob k L n numbers bytes b) .unfinished ≡ n - planesRead k L n (take b (bits bytes) ++ r) b
+any-bits-unfinished k L n numbers bytes b s l e p h r a =
+    ap (λ (d : Decoding). d .unfinished) (any-bits k L n numbers bytes b s l e p h) ∙ unfinished-true k L n (take b (bits bytes)) r a
+    ∙ ap (λ c. n - planesRead k L n (take b (bits bytes) ++ r) c) (length-take-le b (bits bytes) (omega (arith, bits-length bytes)))
 
 -- ---- a whole record
 -- a picture, and room enough for all of its bits; whatever the lent places held

@@ -8,7 +8,7 @@ use lib.IntN.{ℤ}
 use lib.ListN.{length}
 use Rattle.paper.specs.Sizes.{sizeIn, levelsIn, planesIn, numbersIn, mostBits}
 use Rattle.paper.specs.Block.{isLabel, payloadBytes, payloadStart, checksRight, fieldsRight}
-use Rattle.paper.specs.Record.{blocksFor, wholeBlocks, blockAt, inTurn}
+use Rattle.paper.specs.Record.{blocksFor, wholeBlocks, blockAt, said, inTurn}
 use Rattle.paper.specs.Jobs.{isSquare}
 
 -- a row: its number, and whether what it asks holds; it applies where that does not hold
@@ -60,7 +60,7 @@ writingRows k L n label bytes b room =
 abbrev pub readingRows : List ℕ → List ℕ → List ℕ → List Row
 readingRows s label room =
     row 6 (leb 512 (length s) && leb (payloadBytes payloadStart * wholeBlocks s) (length room)) ∷ row 7 (isLabel label)
-    ∷ row 8 (checksRight (blockAt s 0)) ∷ row 9 (fieldsRight payloadStart (blockAt s 0)) ∷ row 10 (inTurn s label 0) ∷ []
+    ∷ row 8 (checksRight (blockAt s 0)) ∷ row 9 (fieldsRight payloadStart (blockAt s 0)) ∷ row 10 (inTurn (said (blockAt s 0)) label 0 (blockAt s 0)) ∷ []
 
 abbrev pub checkRows : List ℕ → List Row
 checkRows block = row 6 (eqb (length block) 512) ∷ row 8 (checksRight block) ∷ row 9 (fieldsRight payloadStart block) ∷ []
