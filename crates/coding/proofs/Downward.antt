@@ -9,7 +9,7 @@ use lib.ListN.{length}
 use Rattle.paper.specs.Sizes.{mostPlanes, sizeIn, levelsIn}
 use Rattle.paper.specs.Walk.{depth, walkPlanes}
 use Rattle.sizes.proofs.Ranges.{size-high, levels-less}
-use Rattle.sizes.proofs.Counts.{shifted}
+use Rattle.sizes.proofs.Counts.{area-shifted}
 use Rattle.bits.specs.Bits.{Sink, wrote}
 use Rattle.bits.proofs.Written.{wrote-append}
 use Rattle.coder.specs.Coded.{planeBits, Levels, CodedPlane}
@@ -21,7 +21,7 @@ suc-depth : (k L : ℕ) → L < k → k - L ≡ suc (depth k L)
 suc-depth k L h = omega arith
 
 pub first-is : (k L : ℕ) → sizeIn k ≡ true → levelsIn k L ≡ true → 1 * 2 ^ (2 * (k - L)) % 18446744073709551616 ≡ 4 ^ suc (depth k L)
-first-is k L s l = shifted (k - L) (omega (arith, size-high k s)) ∙ ap (λ m. 4 ^ m) (suc-depth k L (levels-less k L l))
+first-is k L s l = area-shifted (k - L) (omega (arith, size-high k s)) ∙ ap (λ m. 4 ^ m) (suc-depth k L (levels-less k L l))
 
 sized : (k L : ℕ) (xs : List ℤ) → levelsIn k L ≡ true → length xs ≡ 4 ^ k → length xs ≡ 4 ^ (suc (depth k L) + L)
 sized k L xs l n = n ∙ ap (λ m. 4 ^ m) (let z : k ≡ suc (depth k L) + L = omega (arith, levels-less k L l) in z)

@@ -14,7 +14,7 @@ use lib.Seq.{take-all, take-take, take-suc-set}
 use Rattle.paper.specs.Sizes.{mostSize, mostPlanes}
 use Rattle.paper.specs.Bits.{bits}
 use Rattle.paper.specs.Walk.{Decoder, walkPlanes, depth, decodeOf, Settled}
-use Rattle.sizes.proofs.Counts.{shifted}
+use Rattle.sizes.proofs.Counts.{area-shifted}
 use Rattle.walk_laws.specs.Read.{readLimit, read-limit}
 use Rattle.walk_laws.specs.Room.{Room, room-zeros}
 use Rattle.bits.specs.Bits.{tapeOf}
@@ -32,7 +32,7 @@ cleared-all xs xs₀ i h k s e = sym (take-all i xs h) ∙ e ∙ ap (λ n. repli
 
 -- ---- the first set
 pub first-is : (k L : ℕ) → L < k → k ≤ mostSize → 1 * 2 ^ (2 * (k - L)) % 18446744073709551616 ≡ 4 ^ suc (depth k L)
-first-is k L h g = shifted (k - L) (omega arith) ∙ ap (λ j. 4 ^ j) (let z : k - L ≡ suc (k - suc L) = omega arith in z)
+first-is k L h g = area-shifted (k - L) (omega arith) ∙ ap (λ j. 4 ^ j) (let z : k - L ≡ suc (k - suc L) = omega arith in z)
 
 -- ---- the planes
 -- sizes that are right, the numbers cleared, the first set, and the bits capped

@@ -21,8 +21,8 @@ use Rattle.integer_laws.specs.Difference.{pos-⊖, negsuc-⊖}
 use Rattle.lift.specs.Off.{Over, Off}
 use Rattle.lift.proofs.Near.{overs}
 use Rattle.square_laws.specs.Picture.{lossless, greys-near, picture-near}
-use Rattle.walk_laws.specs.Decoded.{Truthful, decodedFirst, truth, better}
-use Rattle.walk_laws.specs.Read.{places}
+use Rattle.walk_laws.specs.Decoded.{Truthful, decodedFirst, decoded-truthful, decoded-never-worse}
+use Rattle.walk_laws.specs.Read.{decoded-length}
 use Rattle.record_laws.specs.ReadBack.{bitsIn}
 use Rattle.label.specs.Journey.{intoRecord, Seen, outOfRecord}
 use Rattle.label.proofs.Journeys as way
@@ -76,18 +76,18 @@ module _ (k L : ℕ) (label picture : List ℕ) (given : Given k L label picture
 
   -- No magnitude is above the true one, none short by more than 2 ^ p - 1, and none that isn't zero has the wrong sign.
   pub numbers-truthful : (b i : ℕ) → Truthful ((first b) .unfinished) (at true-numbers i) (at ((first b) .numbers) i)
-  numbers-truthful = truth k L true-numbers (levels-less k L (given .levels)) N (truth-given k L label picture given .small)
+  numbers-truthful = decoded-truthful k L true-numbers (levels-less k L (given .levels)) N (truth-given k L label picture given .small)
 
   -- Keeping more bits never moves a number away from the truth.
   pub never-away : (b c i : ℕ) → b ≤ c → natAbs (at true-numbers i -ℤ at ((first c) .numbers) i) ≤ natAbs (at true-numbers i -ℤ at ((first b) .numbers) i)
-  never-away = better k L true-numbers (levels-less k L (given .levels)) N (truth-given k L label picture given .small)
+  never-away = decoded-never-worse k L true-numbers (levels-less k L (given .levels)) N (truth-given k L label picture given .small)
 
   -- No grey is off by more than (7 L + 1) (2 ^ p - 1).
   pub grey-limit : (b place : ℕ) → place < 4 ^ k
       → (shows b place ≤ getD picture place 0 + (7 * L + 1) * (2 ^ (first b) .unfinished - 1)) × (getD picture place 0 ≤ shows b place + (7 * L + 1) * (2 ^ (first b) .unfinished - 1))
   grey-limit b place h =
       let less : L ≤ k = omega (arith, levels-less k L (given .levels)) in
-      let near = picture-near (2 ^ (first b) .unfinished - 1) L k true-numbers ((first b) .numbers) less N (places k L _ _) (λ z g. truthful-off _ _ _ (numbers-truthful b z)) place h in
+      let near = picture-near (2 ^ (first b) .unfinished - 1) L k true-numbers ((first b) .numbers) less N (decoded-length k L _ _) (λ z g. truthful-off _ _ _ (numbers-truthful b z)) place h in
       let back : getD (pictured k (greysOf k L true-numbers)) place 0 ≡ getD picture place 0 = ap (λ (g : List ℕ). getD g place 0) (lossless L k picture less (given .square) (given .greys)) in
       (omega (arith, near .1, back), omega (arith, near .0, back))
 

@@ -21,7 +21,7 @@ use Rattle.sizes.proofs.Refusals.{sizes-passed, done-is}
 use Rattle.sizes.proofs.Numbers.{count-in}
 use Rattle.square_laws.specs.Numbers.{Bytes, numbers-in, length-numbers}
 use Rattle.record_laws.specs.ReadBack.{bitsIn, readBack}
-use Rattle.walk_laws.specs.Read.{places}
+use Rattle.walk_laws.specs.Read.{decoded-length}
 use Rattle.walk_laws.specs.Room.{decoded-in}
 use Rattle.label.specs.Journey.{intoRecord, Seen, outOfRecord}
 use Rattle.label.proofs.Way.{Numbers, coded, read, decoded}
@@ -88,7 +88,7 @@ module _ (k L : ℕ) (label picture : List ℕ) (given : Given k L label picture
       rebuilt : inverseJob k L (settled .numbers) shown greys ≡ record { refusal = 0; picture = pictured k (greysOf k L (settled .numbers)); room = greysOf k L (settled .numbers) }
       unfolding inverseJob inverseRefusal
       rebuilt = done-is _ _ _ (sizes-passed k L _ (given .size) (given .levels) ∙ rw (
-        eq-eqb (length (settled .numbers)) (4 ^ k) (places k L n (take left code)),
+        eq-eqb (length (settled .numbers)) (4 ^ k) (decoded-length k L n (take left code)),
         eq-eqb (length shown) (4 ^ k) shown-fits,
         eq-eqb (length greys) (4 ^ k) greys-fit,
         decoded-in k L n (take left code) (planes-few n (count-in truth)),

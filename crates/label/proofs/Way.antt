@@ -24,7 +24,7 @@ use Rattle.bits.proofs.OneBit.{bits-length}
 use Rattle.bits.proofs.Packing.{bits-take, bits-laid, packed-length}
 use Rattle.record_laws.specs.ReadBack.{bitsIn, bits-read, readBack}
 use Rattle.record_laws.specs.BothJobs.{read-written}
-use Rattle.walk_laws.specs.Bound.{bound}
+use Rattle.walk_laws.specs.Bound.{coding-bound}
 
 length-laid : (l : List Bool) (s : List ℕ) → length (laid l s) ≡ length s
 unfolding laid
@@ -70,7 +70,7 @@ module _ (k L : ℕ) (numbers : List ℤ) (given : Numbers k L numbers) (limit :
 
   bounded : length written ≤ mostBits k (planeCount numbers)
   unfolding writtenOf
-  bounded = omega (arith, length-take (min limit (8 * length bytes)) (codeOf k L numbers), bound k L numbers (levels-less k L (given .levels)) (given .square) (given .small))
+  bounded = omega (arith, length-take (min limit (8 * length bytes)) (codeOf k L numbers), coding-bound k L numbers (levels-less k L (given .levels)) (given .square) (given .small))
 
   -- the bits come back from the bytes
   pub bits-written : take (length written) (bits (laid written bytes)) ≡ written

@@ -22,8 +22,8 @@ use Rattle.scan.specs.Seen.{seenOf}
 pub power-lt : (p : ℕ) → p < mostPlanes → 2 ^ p < 2 ^ mostPlanes
 power-lt p h = pow-lt h
 
-pub shifted : (p : ℕ) → p < mostPlanes → 1 * 2 ^ p % 2 ^ 32 ≡ 2 ^ p
-shifted p h = let k : 1 * 2 ^ p < 2 ^ 32 = omega (arith, power-lt p h) in mod-eq-of-lt k ∙ omega arith
+pub threshold-shifted : (p : ℕ) → p < mostPlanes → 1 * 2 ^ p % 2 ^ 32 ≡ 2 ^ p
+threshold-shifted p h = let k : 1 * 2 ^ p < 2 ^ 32 = omega (arith, power-lt p h) in mod-eq-of-lt k ∙ omega arith
 
 -- one number passed: it is t or more, or what reaches t comes later
 passed : (t m : ℕ) (xs : List ℤ) (i : ℕ) → i < length xs → m ≡ natAbs (at xs i) → reaches t (drop i xs) ≡ pick (leb t m) true (reaches t (drop (i + 1) xs))
@@ -50,11 +50,11 @@ module _ (t m : ℕ) (xs : List ℤ) (any : Bool) (i : ℕ) (h : i < length xs) 
   any-true true = refl
   any-true false = refl
 
-  pub found : t ≤ m → reaches t xs ≡ true
-  found k = step true (le-leb t m k) ∙ any-true any
+  pub found-reaches : t ≤ m → reaches t xs ≡ true
+  found-reaches k = step true (le-leb t m k) ∙ any-true any
 
   pub pass-yes : t ≤ m → Passed t xs true (i + 1)
-  pass-yes k = record { so = found k }
+  pass-yes k = record { so = found-reaches k }
 
   pub pass-no : m < t → Passed t xs any (i + 1)
   pass-no k = record { so = step false (lt-leb t m k) }

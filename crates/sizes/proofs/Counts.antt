@@ -14,8 +14,8 @@ square-power (suc k) =
     rw e (omega (arith, pow-suc 2 (suc (2 * k)), pow-suc 2 (2 * k), pow-suc 4 k, square-power k))
 
 -- `1usize << (2 * k)`
-pub shifted : (k : ℕ) → k ≤ 31 → 1 * 2 ^ (2 * k) % 18446744073709551616 ≡ 4 ^ k
-shifted k h =
+pub area-shifted : (k : ℕ) → k ≤ 31 → 1 * 2 ^ (2 * k) % 18446744073709551616 ≡ 4 ^ k
+area-shifted k h =
     let b : 4 ^ k ≤ 4 ^ 31 = pow-le-pow-right {n = 4} (omega arith) h in
     rw (one-mul (2 ^ (2 * k)), square-power k) (mod-eq-of-lt (omega arith))
 

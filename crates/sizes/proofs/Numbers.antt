@@ -31,8 +31,8 @@ pub number-above : (x : ℤ) → ltZ x (negsuc 262142) ≡ false → leZ x (pos 
 number-above (pos m) e = refl
 number-above (negsuc m) e = sym (le-leb (suc m) 262143 (omega (arith, ltb-false 262142 m e)))
 
-pub within : (x : ℤ) → leb (natAbs x) numberLimit ≡ true → Within 262143 x
-within x e = record { size = leb-true (natAbs x) 262143 e }
+pub number-within : (x : ℤ) → leb (natAbs x) numberLimit ≡ true → Within 262143 x
+number-within x e = record { size = leb-true (natAbs x) 262143 e }
 
 -- its magnitude, as the code has it for a number below 0 and for another
 pub magnitude-below : (x : ℤ) → Within 262143 x → ltZ x (pos 0) ≡ true → SFits w32 (pos 0 -ℤ x) × (T (nonNeg (pos 0 -ℤ x)) × Fits w32 (natAbs (pos 0 -ℤ x))) × (natAbs (pos 0 -ℤ x) ≡ natAbs x)
@@ -98,8 +98,8 @@ pub record Halved (f n left most : ℕ) : Type 0 where
   pub small : left / 2 < 2 ^ (f - (n + 1))
   pub same : n + 1 + bitsNeeded (f - (n + 1)) (left / 2) ≡ most
 
-pub halved : (f n left most : ℕ) → 0 < left → left < 2 ^ (f - n) → n + bitsNeeded (f - n) left ≡ most → Halved f n left most
-halved f n left most h l e = go (f - n) refl l e
+pub count-halved : (f n left most : ℕ) → 0 < left → left < 2 ^ (f - n) → n + bitsNeeded (f - n) left ≡ most → Halved f n left most
+count-halved f n left most h l e = go (f - n) refl l e
   where
     go : (g : ℕ) → f - n ≡ g → left < 2 ^ g → n + bitsNeeded g left ≡ most → Halved f n left most
     go zero q l e = absurd (omega arith)

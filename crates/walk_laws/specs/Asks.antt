@@ -47,17 +47,17 @@ abbrev pub Closes : ℕ → ℕ → List ℤ → Type 0
 Closes d zero xs = xs ≡ []
 Closes d (suc left) xs = Closes (suc d) left (behind (4 ^ suc d) xs)
 
-pub closes : (d left : ℕ) (xs : List ℤ) → length xs + 4 ^ suc d ≡ 4 ^ (suc d + left) → Closes d left xs
-closes d zero [] h = refl
-closes d zero (x ∷ xs) h = absurd (omega (arith, ap (λ k. 4 ^ k) (add-zero (suc d))))
-closes d (suc left) xs h =
+pub rest-closes : (d left : ℕ) (xs : List ℤ) → length xs + 4 ^ suc d ≡ 4 ^ (suc d + left) → Closes d left xs
+rest-closes d zero [] h = refl
+rest-closes d zero (x ∷ xs) h = absurd (omega (arith, ap (λ k. 4 ^ k) (add-zero (suc d))))
+rest-closes d (suc left) xs h =
     let q = 4 ^ suc d in
     let e : suc d + suc left ≡ suc (suc d) + left = omega arith in
     let b : 4 ^ suc (suc d) ≤ 4 ^ (suc (suc d) + left) = pow-le-pow-right {n = 4} (omega arith) (omega arith) in
-    closes (suc d) left (behind q xs)
+    rest-closes (suc d) left (behind q xs)
     (omega (arith, h, pow-suc 4 (suc d), b, ap (λ k. 4 ^ k) e, length-drop q (drop q (drop q xs)), length-drop q (drop q xs), length-drop q xs))
 
 -- a plane's levels end where its 4 ^ (suc d + L) numbers do
 pub plane-closes : (d L : ℕ) (xs : List ℤ) → length xs ≡ 4 ^ (suc d + L) → Closes d L (drop (4 ^ suc d) xs)
 plane-closes d L xs s =
-    closes d L (drop (4 ^ suc d) xs) (omega (arith, length-drop (4 ^ suc d) xs, pow-le-pow-right {n = 4} (omega arith) {i = suc d} {j = suc d + L} (omega arith)))
+    rest-closes d L (drop (4 ^ suc d) xs) (omega (arith, length-drop (4 ^ suc d) xs, pow-le-pow-right {n = 4} (omega arith) {i = suc d} {j = suc d + L} (omega arith)))

@@ -14,7 +14,7 @@ use Rattle.paper.specs.Sizes.{numbersIn, mostBits}
 use Rattle.paper.specs.Walk.{reaches, isOne, Coder, testSet, walkNumber, walkNumbers, walkSet, walkRest, walkPlane, walkPlanes, codeOf, planeCount, depth, _next_}
 use Rattle.walk_laws.specs.Asks.{behind, Closes, test-known, test-asks, number-known, number-asks, afterBit, opened}
 use Rattle.walk_laws.specs.Planes.{planesCode, code-step}
-use Rattle.walk_laws.specs.Decoded.{closed}
+use Rattle.walk_laws.specs.Decoded.{square-closes}
 
 -- ---- one plane
 -- 1 for a number that becomes T or more in plane p, which costs a sign bit
@@ -179,9 +179,9 @@ module _ (d L : ℕ) (xs : List ℤ) (h : Closes d L (drop (4 ^ suc d) xs)) wher
 
 module _ (k L : ℕ) (xs : List ℤ) (levels : L < k) (square : length xs ≡ 4 ^ k) (numbers-in : numbersIn xs ≡ true) where
   -- A coding has at most n (4 S² - 1) / 3 + S² bits.
-  pub bound : length (codeOf k L xs) ≤ mostBits k (planeCount xs)
+  pub coding-bound : length (codeOf k L xs) ≤ mostBits k (planeCount xs)
   unfolding codeOf mostBits
-  bound =
+  coding-bound =
       let d = depth k L in
       let e : suc d + L ≡ k = omega arith in
-      rw square at (planes-bound d L xs (closed k L xs levels square numbers-in) (planeCount xs) (square ∙ ap (λ j. 4 ^ j) (sym e)))
+      rw square at (planes-bound d L xs (square-closes k L xs levels square numbers-in) (planeCount xs) (square ∙ ap (λ j. 4 ^ j) (sym e)))

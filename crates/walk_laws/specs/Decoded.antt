@@ -98,40 +98,40 @@ module _ (k L : ℕ) (xs : List ℤ) (levels : L < k) (square : length xs ≡ 4 
   abbrev code : List Bool
   code = codeOf k L xs
 
-  pub closed : Closes d L (drop (4 ^ suc d) xs)
-  closed = plane-closes d L xs (square ∙ ap (λ j. 4 ^ j) (let e : k ≡ suc d + L = omega arith in e))
+  pub square-closes : Closes d L (drop (4 ^ suc d) xs)
+  square-closes = plane-closes d L xs (square ∙ ap (λ j. 4 ^ j) (let e : k ≡ suc d + L = omega arith in e))
 
-  pub starts : map (cleared n) xs ≡ replicate (4 ^ k) (pos 0)
-  starts = all-cleared n xs (count-fits xs numbers-in) ∙ ap (λ j. replicate j (pos 0)) square
+  pub start-cleared : map (cleared n) xs ≡ replicate (4 ^ k) (pos 0)
+  start-cleared = all-cleared n xs (count-fits xs numbers-in) ∙ ap (λ j. replicate j (pos 0)) square
 
-  decoded : (l : List Bool) {v : List ℤ × ℕ} {t : Tape} → run d L xs closed n l ≡ (v, t)
+  decoded : (l : List Bool) {v : List ℤ × ℕ} {t : Tape} → run d L xs square-closes n l ≡ (v, t)
       → decodeOf k L n l ≡ record { numbers = v .0; unfinished = v .1; read = length l - length (t .left) }
   unfolding decodeOf
   decoded l e =
       ap {B = Settled} (λ q. record { numbers = q .0 .0; unfinished = q .0 .1; read = length l - length (q .1 .left) })
-      (ap (λ z. walkPlanes Decoder d L n z (tape l false)) (sym starts) ∙ e)
+      (ap (λ z. walkPlanes Decoder d L n z (tape l false)) (sym start-cleared) ∙ e)
 
   -- The whole coding, whatever stands behind it, decodes to the numbers, and no bit behind it is read.
-  pub whole : (r : List Bool) → decodeOf k L n (code ++ r) ≡ record { numbers = xs; unfinished = 0; read = length code }
+  pub coding-decoded : (r : List Bool) → decodeOf k L n (code ++ r) ≡ record { numbers = xs; unfinished = 0; read = length code }
   unfolding codeOf
-  whole r =
-      decoded (code ++ r) (run-whole d L xs closed n r)
+  coding-decoded r =
+      decoded (code ++ r) (run-whole d L xs square-closes n r)
       ∙ (λ i. record { numbers = none-cleared xs i; unfinished = 0; read = (let e : length (code ++ r) - length r ≡ length code = omega (arith, length-append code r) in e) i })
 
   pub all-bits : (b : ℕ) → length code ≤ b → decodedFirst k L xs b ≡ record { numbers = xs; unfinished = 0; read = length code }
-  all-bits b h = ap (decodeOf k L n) (take-all b code h ∙ sym (append-nil code)) ∙ whole []
+  all-bits b h = ap (decodeOf k L n) (take-all b code h ∙ sym (append-nil code)) ∙ coding-decoded []
 
   -- the first b bits and the first c, neither all of them
-  some-bits : (b c : ℕ) → b ≤ c → c < length code → Further xs n (run d L xs closed n (take b code)) (run d L xs closed n (take c code))
+  some-bits : (b c : ℕ) → b ≤ c → c < length code → Further xs n (run d L xs square-closes n (take b code)) (run d L xs square-closes n (take c code))
   unfolding codeOf
   some-bits b c h g =
       let k = take (c - b) (drop b code) in
       let join : take b code ++ k ≡ take c code = sym (take-add b (c - b) code) ∙ ap (λ j. take j code) (let e : b + (c - b) ≡ c = omega arith in e) in
       let e : (take b code ++ k) ++ getD code c false ∷ drop (suc c) code ≡ code = (λ i. join i ++ sym (drop-cons code c false g) i) ∙ take-append-drop c code in
-      rw join at (run-part d L xs closed n (take b code) k (getD code c false) (drop (suc c) code) e)
+      rw join at (run-part d L xs square-closes n (take b code) k (getD code c false) (drop (suc c) code) e)
 
   -- number i, where the decoder stops in a plane
-  stopped-at : (b i : ℕ) {p j : ℕ} → Stopped xs n p j (run d L xs closed n (take b code))
+  stopped-at : (b i : ℕ) {p j : ℕ} → Stopped xs n p j (run d L xs square-closes n (take b code))
       → at ((decodedFirst k L xs b) .numbers) i ≡ cleared (unsettled p j i) (at xs i)
   stopped-at b i {p = p} {j = j} S = ap (λ (s : Settled). at (s .numbers) i) (decoded (take b code) (S .is)) ∙ settled-at p j xs i
 
@@ -143,8 +143,8 @@ module _ (k L : ℕ) (xs : List ℤ) (levels : L < k) (square : length xs ≡ 4 
       go false e = f (ltb-false b (length code) e)
 
   -- Of any first part: no magnitude is above the true one, none short by more than 2 ^ p - 1, none but 0 has the wrong sign.
-  pub truth : (b i : ℕ) → Truthful ((decodedFirst k L xs b) .unfinished) (at xs i) (at ((decodedFirst k L xs b) .numbers) i)
-  truth b i = split-bits b _ every some
+  pub decoded-truthful : (b i : ℕ) → Truthful ((decodedFirst k L xs b) .unfinished) (at xs i) (at ((decodedFirst k L xs b) .numbers) i)
+  decoded-truthful b i = split-bits b _ every some
     where
       every : length code ≤ b → Truthful ((decodedFirst k L xs b) .unfinished) (at xs i) (at ((decodedFirst k L xs b) .numbers) i)
       every h = rw (all-bits b h) (record { notAbove = omega arith; notShort = omega arith; rightSign = λ _. refl })
@@ -155,8 +155,8 @@ module _ (k L : ℕ) (xs : List ℤ) (levels : L < k) (square : length xs ≡ 4 
           rw (stopped-at b i (S .fewer), decoded (take b code) (S .fewer .is)) (cleared-truthful (unsettled (S .plane) (S .count) i) (suc (S .plane)) (at xs i) (unsettled-most (S .plane) (S .count) i))
 
   -- So no number is further than 2 ^ p - 1 from the truth.
-  pub near : (b i : ℕ) → natAbs (at xs i -ℤ at ((decodedFirst k L xs b) .numbers) i) ≤ 2 ^ (decodedFirst k L xs b) .unfinished - 1
-  near b i = split-bits b _ every some
+  pub decoded-near : (b i : ℕ) → natAbs (at xs i -ℤ at ((decodedFirst k L xs b) .numbers) i) ≤ 2 ^ (decodedFirst k L xs b) .unfinished - 1
+  decoded-near b i = split-bits b _ every some
     where
       x : ℤ
       x = at xs i
@@ -171,9 +171,9 @@ module _ (k L : ℕ) (xs : List ℤ) (levels : L < k) (square : length xs ≡ 4 
           rw (stopped-at b i (S .fewer), decoded (take b code) (S .fewer .is)) (omega (arith, cleared-gap q x, lt-high q (natAbs x), pow-mono (unsettled-most (S .plane) (S .count) i)))
 
   -- More bits never move a number away from the truth.
-  pub better : (b c i : ℕ) → b ≤ c
+  pub decoded-never-worse : (b c i : ℕ) → b ≤ c
       → natAbs (at xs i -ℤ at ((decodedFirst k L xs c) .numbers) i) ≤ natAbs (at xs i -ℤ at ((decodedFirst k L xs b) .numbers) i)
-  better b c i h = split-bits c _ every some
+  decoded-never-worse b c i h = split-bits c _ every some
     where
       x : ℤ
       x = at xs i

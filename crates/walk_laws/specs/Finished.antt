@@ -16,7 +16,7 @@ use Rattle.walk_laws.specs.Asks.{Closes}
 use Rattle.walk_laws.specs.Together.{tape}
 use Rattle.walk_laws.specs.Plane.{together-plane}
 use Rattle.walk_laws.specs.Planes.{planesCode, code-step}
-use Rattle.walk_laws.specs.Decoded.{decodedFirst, closed, starts, whole}
+use Rattle.walk_laws.specs.Decoded.{decodedFirst, square-closes, start-cleared, coding-decoded}
 use Rattle.walk_laws.specs.Bound.{plane-some}
 use Rattle.walk_laws.specs.Unfinished.{walkDown, down-step, down-ends, planesOver, AllRead, bitsThrough, finished-read, through-first, cut-finished}
 
@@ -46,14 +46,14 @@ module _ (k L : ℕ) (xs : List ℤ) (levels : L < k) (square : length xs ≡ 4 
   code = codeOf k L xs
 
   coding-read : (q : ℕ) → AllRead k L n q code
-  coding-read q = finished-read k L n q code (omega (arith, ap (λ (s : Settled). s .unfinished) (ap (decodeOf k L n) (sym (append-nil code)) ∙ whole k L xs levels square numbers-in [])))
+  coding-read q = finished-read k L n q code (omega (arith, ap (λ (s : Settled). s .unfinished) (ap (decodeOf k L n) (sym (append-nil code)) ∙ coding-decoded k L xs levels square numbers-in [])))
 
   -- the decoder's count of the bits is the coder's
   coding-left : (q : ℕ) → q ≤ n → bitsThrough k L n q code + length (planesCode d L xs q) ≡ length code
   unfolding planesOver bitsThrough codeOf
   coding-left q h =
-      let left : (planesOver k L n q code) .1 ≡ planesCode d L xs q = ap (λ z. (walkDown d L q n z (tape code false)) .1 .left) (sym (starts k L xs levels square numbers-in))
-      ∙ ap (λ r. r .1 .left) (down-coding d L xs (closed k L xs levels square numbers-in) q n h) in
+      let left : (planesOver k L n q code) .1 ≡ planesCode d L xs q = ap (λ z. (walkDown d L q n z (tape code false)) .1 .left) (sym (start-cleared k L xs levels square numbers-in))
+      ∙ ap (λ r. r .1 .left) (down-coding d L xs (square-closes k L xs levels square numbers-in) q n h) in
       omega (arith, ap length left, ap length (through-first k L n q code (coding-read q)), length-drop (bitsThrough k L n q code) code)
 
   -- The first b bits finish planes n - 1 to q exactly if they reach the last bit of plane q.
@@ -65,7 +65,7 @@ module _ (k L : ℕ) (xs : List ℤ) (levels : L < k) (square : length xs ≡ 4 
   through-more : (q : ℕ) → q < n → codedThrough k L xs (suc q) < codedThrough k L xs q
   unfolding codedThrough
   through-more q h =
-      omega (arith, coding-left (suc q) h, plane-some d L xs (closed k L xs levels square numbers-in) q (omega (arith, square, pow-le-pow-right {n = 4} (omega arith) {i = 0} {j = k} (omega arith))))
+      omega (arith, coding-left (suc q) h, plane-some d L xs (square-closes k L xs levels square numbers-in) q (omega (arith, square, pow-le-pow-right {n = 4} (omega arith) {i = 0} {j = k} (omega arith))))
 
   -- So after the last bit of plane q exactly q planes are unfinished, and one bit before it q + 1.
   at-most : (q b : ℕ) → q ≤ n → codedThrough k L xs q ≤ b → (decodedFirst k L xs b) .unfinished ≤ q

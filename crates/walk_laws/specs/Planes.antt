@@ -12,7 +12,7 @@ use Rattle.paper.specs.Lists.{at}
 use Rattle.paper.specs.Walk.{Coder, Decoder, Tape, walkPlane, walkPlanes}
 use Rattle.walk_laws.specs.Cleared.{cleared, cleared-small}
 use Rattle.walk_laws.specs.Asks.{Closes}
-use Rattle.walk_laws.specs.Together.{tape, settled, Together, Stops, Ends, Goes, parted, nothing-after}
+use Rattle.walk_laws.specs.Together.{tape, settled, Together, Stops, Ends, Goes, first-part-splits, nothing-after}
 use Rattle.walk_laws.specs.Plane.{together-plane}
 
 -- ---- number by number
@@ -113,7 +113,7 @@ module _ (d L : ℕ) (xs : List ℤ) (h : Closes d L (drop (4 ^ suc d) xs)) wher
 
   pub run-part : (n : ℕ) (l k : List Bool) (b : Bool) (m : List Bool) → (l ++ k) ++ b ∷ m ≡ code n → Further xs n (run n l) (run n (l ++ k))
   run-part zero l k b m e = absurd (nothing-after (l ++ k) b m (e ∙ (unfold walkPlanes in refl)))
-  run-part (suc p) l k b m e = go (parted B C (l ++ k) (b ∷ m) (e ∙ code-step p)) (λ l′ k′. run-part p l′ k′ b m)
+  run-part (suc p) l k b m e = go (first-part-splits B C (l ++ k) (b ∷ m) (e ∙ code-step p)) (λ l′ k′. run-part p l′ k′ b m)
     where
       B : List Bool
       B = planeCode p
@@ -167,4 +167,4 @@ module _ (d L : ℕ) (xs : List ℤ) (h : Closes d L (drop (4 ^ suc d) xs)) wher
             more = stopped-in p (l ++ k) (Q .i) (Q .more);
             settles = λ n. unsettled-mono p (Q .j) (Q .i) n (Q .grows);
           }
-      go (inr g) ih = on g (parted B (g .0) l k (g .1)) ih
+      go (inr g) ih = on g (first-part-splits B (g .0) l k (g .1)) ih

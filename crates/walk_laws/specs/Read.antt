@@ -266,8 +266,8 @@ module _ (k L n : ℕ) where
       (let e : length l - length (E .rest) ≡ length (E .taken) = omega (arith, ap length (E .parts), length-append (E .taken) (E .rest)) in e)
 
   -- All S² numbers are written.
-  pub places : (l : List Bool) → length ((decodeOf k L n l) .numbers) ≡ 4 ^ k
-  places l = go (outcome l)
+  pub decoded-length : (l : List Bool) → length ((decodeOf k L n l) .numbers) ≡ 4 ^ k
+  decoded-length l = go (outcome l)
     where
       go : Outcome (Counted (4 ^ k)) most (walkPlanes Decoder d L n start) l → length ((decodeOf k L n l) .numbers) ≡ 4 ^ k
       go (enough E) = rw (decoded-enough l E) (E .known .numbers)

@@ -76,10 +76,10 @@ Ends l B = (b : Bool) × (m : List Bool) × (l ++ b ∷ m ≡ B)
 abbrev pub Goes : List Bool → List Bool → List Bool → List Bool → Type 0
 Goes l k B C = (l′ : List Bool) × (l ≡ B ++ l′) × (l′ ++ k ≡ C)
 
-pub parted : (B C l k : List Bool) → l ++ k ≡ B ++ C → Ends l B ⊎ Goes l k B C
-parted [] C l k e = inr (l, refl, e)
-parted (x ∷ B) C [] k e = inl (x, B, refl)
-parted (x ∷ B) C (y ∷ l) k e = step (parted B C l k (cc))
+pub first-part-splits : (B C l k : List Bool) → l ++ k ≡ B ++ C → Ends l B ⊎ Goes l k B C
+first-part-splits [] C l k e = inr (l, refl, e)
+first-part-splits (x ∷ B) C [] k e = inl (x, B, refl)
+first-part-splits (x ∷ B) C (y ∷ l) k e = step (first-part-splits B C l k (cc))
   where
     step : Ends l B ⊎ Goes l k B C → Ends (y ∷ l) (x ∷ B) ⊎ Goes (y ∷ l) k (x ∷ B) C
     step (inl h) = inl (h .0, h .1, (let t = h .2 in cc))
@@ -110,7 +110,7 @@ module _ {p : ℕ} {xs ys : List ℤ} {c e : List ℤ × List Bool} {f g : Decod
   )
 
   grows-next : (l k : List Bool) (b : Bool) (m : List Bool) → (l ++ k) ++ b ∷ m ≡ c .1 ++ e .1 → Grows p (xs ++ ys) (_next_ Decoder f g (tape l false)) (_next_ Decoder f g (tape (l ++ k) false))
-  grows-next l k b m h = go (parted (c .1) (e .1) (l ++ k) (b ∷ m) h)
+  grows-next l k b m h = go (first-part-splits (c .1) (e .1) (l ++ k) (b ∷ m) h)
     where
       on : (h : Goes (l ++ k) (b ∷ m) (c .1) (e .1)) → Ends l (c .1) ⊎ Goes l k (c .1) (h .0) → Grows p (xs ++ ys) (_next_ Decoder f g (tape l false)) (_next_ Decoder f g (tape (l ++ k) false))
       on h (inl i) =
@@ -143,7 +143,7 @@ module _ {p : ℕ} {xs ys : List ℤ} {c e : List ℤ × List Bool} {f g : Decod
             fewer = stops-first (tape l false) (Q .j) (Q .fewer);
             more = stops-first (tape (l ++ k) false) (Q .i) (Q .more);
           }
-      go (inr h) = on h (parted (c .1) (h .0) l k (h .1))
+      go (inr h) = on h (first-part-splits (c .1) (h .0) l k (h .1))
 
   pub together-next : Together p (xs ++ ys) (_next_ Coder c e) (_next_ Decoder f g)
   unfolding _next_

@@ -10,7 +10,7 @@ use borrow.Author.Needs.{needs}
 use Rattle.paper.specs.Lists.{at}
 use Rattle.integer_laws.specs.Machine.{read, pass}
 use Rattle.scan.proofs.Numbers.{number-in}
-use Rattle.scan.proofs.Reached.{power-lt, Passed, none-passed, pass-yes, pass-no, all-passed, found, seen-is}
+use Rattle.scan.proofs.Reached.{power-lt, Passed, none-passed, pass-yes, pass-no, all-passed, found-reaches, seen-is}
 use Rattle.scan.proofs.scan.Tie as tie
 use Rattle.scan.proofs.scan.Statement.{statement}
 
@@ -82,7 +82,7 @@ returns-3 c =
     let i = P .loop .i in
     let l : i < length xs = c .before .before .before .if1 .left in
     let e : c .before .magnitude .result ≡ natAbs (at xs i) = c .before .magnitude .ensures ∙ ap natAbs (read (number-in xs i (S .pre .0)) tt) in
-    seen-is _ _ xs true _ (P .before .threshold .ensures) (found _ _ xs false i l e (P .loop .inv .1) (c .if3 .taken)) refl
+    seen-is _ _ xs true _ (P .before .threshold .ensures) (found-reaches _ _ xs false i l e (P .loop .inv .1) (c .if3 .taken)) refl
 
 pub scan-spec : {M : Type 1} → statement M
 scan-spec =

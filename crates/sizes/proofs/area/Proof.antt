@@ -1,4 +1,4 @@
-use Rattle.sizes.proofs.Counts.{shifted}
+use Rattle.sizes.proofs.Counts.{area-shifted}
 use Rattle.sizes.proofs.Ranges.{size-high}
 use native.Mathlib.Omega.{arith}
 use mathlib.Core.Path.{sym, _∙_}
@@ -16,7 +16,7 @@ shl-result : tie.Need-shl-result
 shl-result c = omega (arith, size-high _ (c .pre))
 
 returns : tie.Need-returns
-returns c = shifted _ (omega (arith, size-high _ (c .pre)))
+returns c = area-shifted _ (omega (arith, size-high _ (c .pre)))
 
 pub area-spec : {M : Type 1} → statement M
 area-spec = tie.close (tie.spec mul-result cast-result shl-result returns)

@@ -1,5 +1,5 @@
 use mathlib.Core.Path.{ap}
-use Rattle.sizes.proofs.Numbers.{halved, none-needed}
+use Rattle.sizes.proofs.Numbers.{count-halved, none-needed}
 use Rattle.paper.specs.Walk.{bitsNeeded}
 use native.Mathlib.Omega.{arith}
 use mathlib.Core.Path.{_≡_, refl, sym, _∙_}
@@ -24,7 +24,7 @@ loop-less : tie.Need-loop-less Inv-loop μ-loop
 loop-less c = search needs
 
 loop-again : tie.Need-loop-again Inv-loop μ-loop
-loop-again c = let v = c .before .loop .inv in let H = halved 18 _ _ _ (omega arith) (v .1) (v .2) in (omega (arith, H .more), H .small, H .same)
+loop-again c = let v = c .before .loop .inv in let H = count-halved 18 _ _ _ (omega arith) (v .1) (v .2) in (omega (arith, H .more), H .small, H .same)
 
 returns : tie.Need-returns Inv-loop μ-loop
 returns c = let v = c .before .loop .inv in let z : c .before .loop .left ≡ 0 = omega arith in omega (arith, v .2, ap (bitsNeeded (18 - c .before .loop .n)) z ∙ none-needed (18 - c .before .loop .n))

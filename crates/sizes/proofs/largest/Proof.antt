@@ -1,4 +1,4 @@
-use Rattle.sizes.proofs.Numbers.{within, in-first, in-later, largest-next, largest-all}
+use Rattle.sizes.proofs.Numbers.{number-within, in-first, in-later, largest-next, largest-all}
 use Rattle.paper.specs.Lists.{at}
 use mir.Facts.{toZ-ofZ}
 use lib.IntN.{natAbs}
@@ -30,7 +30,7 @@ shared-slice-copy-out-magnitude : tie.Need-shared-slice-copy-out-magnitude Inv-l
 shared-slice-copy-out-magnitude c = search needs
 
 magnitude-requires : tie.Need-magnitude-requires Inv-loop μ-loop
-magnitude-requires c κs = rw (toZ-ofZ (record { sfits = c .magnitude-arg .given })) (within _ (in-first (c .before .before .before .args .xs .now) (c .before .before .loop .i) (omega arith) (c .before .before .loop .inv .1)))
+magnitude-requires c κs = rw (toZ-ofZ (record { sfits = c .magnitude-arg .given })) (number-within _ (in-first (c .before .before .before .args .xs .now) (c .before .before .loop .i) (omega arith) (c .before .before .loop .inv .1)))
 
 larger-requires : tie.Need-larger-requires Inv-loop μ-loop
 larger-requires c κs = search needs
