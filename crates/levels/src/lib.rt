@@ -4,6 +4,7 @@ ghost use mathlib.Core.Path.{_≡_};
 ghost use Prim.Native.Nat.{_^_, _<_, _≤_};
 ghost use lib.ListN.{length};
 ghost use Rattle.paper.specs.Sizes.{mostSize};
+ghost use Rattle.paper.specs.Line.{lineForward, lineBack};
 ghost use Rattle.paper.specs.Square.{along, levelsForward, levelsBack};
 ghost use Rattle.line.specs.Each.{Each, lineLimit};
 ghost use Rattle.square_laws.specs.Near.{grown};
@@ -48,7 +49,7 @@ fn forward_in(k: u32, levels: u32, xs: &mut [i32], a: &mut [i32], b: &mut [i32])
     requires { ⌜ Fitting forth levels (now xs) ⌝ }
     requires { ⌜ 2 ^ k ≤ length (now a) ⌝ }
     requires { ⌜ 2 ^ k ≤ length (now b) ⌝ }
-    ensures { λ _. ⌜ now (xs .exit) ≡ levelsForward levels k (now (xs .entry)) ⌝ }
+    ensures { λ _. ⌜ now (xs .exit) ≡ levelsForward lineForward levels k (now (xs .entry)) ⌝ }
 {
     if levels == 0 {
         return;
@@ -66,7 +67,7 @@ fn back_in(k: u32, levels: u32, xs: &mut [i32], a: &mut [i32], b: &mut [i32])
     requires { ⌜ Fitting grown levels (now xs) ⌝ }
     requires { ⌜ 2 ^ k ≤ length (now a) ⌝ }
     requires { ⌜ 2 ^ k ≤ length (now b) ⌝ }
-    ensures { λ _. ⌜ now (xs .exit) ≡ levelsBack levels k (now (xs .entry)) ⌝ }
+    ensures { λ _. ⌜ now (xs .exit) ≡ levelsBack lineBack levels k (now (xs .entry)) ⌝ }
 {
     if levels == 0 {
         return;
@@ -82,7 +83,7 @@ pub fn forward(k: u32, levels: u32, xs: &mut [i32])
     requires { ⌜ levels ≤ k ⌝ }
     requires { ⌜ length (now xs) ≡ 4 ^ k ⌝ }
     requires { ⌜ Fitting forth levels (now xs) ⌝ }
-    ensures { λ _. ⌜ now (xs .exit) ≡ levelsForward levels k (now (xs .entry)) ⌝ }
+    ensures { λ _. ⌜ now (xs .exit) ≡ levelsForward lineForward levels k (now (xs .entry)) ⌝ }
 {
     let mut a = [0i32; 256];
     let mut b = [0i32; 256];
@@ -95,7 +96,7 @@ pub fn back(k: u32, levels: u32, xs: &mut [i32])
     requires { ⌜ levels ≤ k ⌝ }
     requires { ⌜ length (now xs) ≡ 4 ^ k ⌝ }
     requires { ⌜ Fitting grown levels (now xs) ⌝ }
-    ensures { λ _. ⌜ now (xs .exit) ≡ levelsBack levels k (now (xs .entry)) ⌝ }
+    ensures { λ _. ⌜ now (xs .exit) ≡ levelsBack lineBack levels k (now (xs .entry)) ⌝ }
 {
     let mut a = [0i32; 256];
     let mut b = [0i32; 256];
