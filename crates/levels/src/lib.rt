@@ -11,6 +11,11 @@ ghost use Rattle.square_laws.specs.Near.{grown};
 ghost use Rattle.pass.specs.Way.{way};
 ghost use Rattle.levels.specs.Level.{levelWay, Fitting, forth};
 
+// The largest k of a side 2 ^ k, and the numbers of the longest line.
+const MOST_SIZE: u32 = 8;
+
+const LONGEST: usize = 1 << MOST_SIZE;
+
 // One level: rows before columns, or back, columns before rows. `a` and `b` are working room for one line.
 fn passes(j: u32, back: bool, xs: &mut [i32], a: &mut [i32], b: &mut [i32])
     requires { ⌜ j ≤ mostSize ⌝ }
@@ -85,8 +90,8 @@ pub fn forward(k: u32, levels: u32, xs: &mut [i32])
     requires { ⌜ Fitting forth levels (now xs) ⌝ }
     ensures { λ _. ⌜ now (xs .exit) ≡ levelsForward lineForward levels k (now (xs .entry)) ⌝ }
 {
-    let mut a = [0i32; 256];
-    let mut b = [0i32; 256];
+    let mut a = [0i32; LONGEST];
+    let mut b = [0i32; LONGEST];
     forward_in(k, levels, xs, &mut a, &mut b);
 }
 
@@ -98,7 +103,7 @@ pub fn back(k: u32, levels: u32, xs: &mut [i32])
     requires { ⌜ Fitting grown levels (now xs) ⌝ }
     ensures { λ _. ⌜ now (xs .exit) ≡ levelsBack lineBack levels k (now (xs .entry)) ⌝ }
 {
-    let mut a = [0i32; 256];
-    let mut b = [0i32; 256];
+    let mut a = [0i32; LONGEST];
+    let mut b = [0i32; LONGEST];
     back_in(k, levels, xs, &mut a, &mut b);
 }
