@@ -1,14 +1,15 @@
--- A level forward or back, and numbers that fit 32 bits through L of them.
+-- A level of the 5/3 rule, forward or back, and numbers that fit 32 bits through L of them.
 use mathlib.Core.Bool.{Bool, true, false}
 use mathlib.Core.List.{List}
 use Prim.Native.Nat.{ℕ, _*_, _^_, _≤_}
 use lib.IntN.{ℤ}
+use Rattle.paper.specs.Line.{lineForward, lineBack}
 use Rattle.paper.specs.Square.{levelForward, levelBack}
 use Rattle.line.specs.Each.{Each, lineLimit}
 
 unfoldable pub levelWay : Bool → ℕ → List ℤ → List ℤ
-levelWay false = levelForward
-levelWay true = levelBack
+levelWay false = levelForward lineForward
+levelWay true = levelBack lineBack
 
 -- what L levels forward make of numbers within M
 abbrev pub forth : ℕ → ℕ → ℕ

@@ -4,11 +4,17 @@ ghost use mathlib.Core.Path.{_≡_};
 ghost use Prim.Native.Nat.{_^_, _<_, _≤_};
 ghost use lib.ListN.{length};
 ghost use Rattle.paper.specs.Sizes.{mostSize};
+ghost use Rattle.paper.specs.Line.{lineForward, lineBack};
 ghost use Rattle.paper.specs.Square.{along, levelsForward, levelsBack};
 ghost use Rattle.line.specs.Each.{Each, lineLimit};
 ghost use Rattle.square_laws.specs.Near.{grown};
 ghost use Rattle.pass.specs.Way.{way};
 ghost use Rattle.levels.specs.Level.{levelWay, Fitting, forth};
+
+// The largest k of a side 2 ^ k, and the numbers of the longest line.
+const MOST_SIZE: u32 = 8;
+
+const LONGEST: usize = 1 << MOST_SIZE;
 
 // One level: rows before columns, or back, columns before rows. `a` and `b` are working room for one line.
 fn passes(j: u32, back: bool, xs: &mut [i32], a: &mut [i32], b: &mut [i32])
@@ -48,7 +54,7 @@ fn forward_in(k: u32, levels: u32, xs: &mut [i32], a: &mut [i32], b: &mut [i32])
     requires { ⌜ Fitting forth levels (now xs) ⌝ }
     requires { ⌜ 2 ^ k ≤ length (now a) ⌝ }
     requires { ⌜ 2 ^ k ≤ length (now b) ⌝ }
-    ensures { λ _. ⌜ now (xs .exit) ≡ levelsForward levels k (now (xs .entry)) ⌝ }
+    ensures { λ _. ⌜ now (xs .exit) ≡ levelsForward lineForward levels k (now (xs .entry)) ⌝ }
 {
     if levels == 0 {
         return;
@@ -66,7 +72,7 @@ fn back_in(k: u32, levels: u32, xs: &mut [i32], a: &mut [i32], b: &mut [i32])
     requires { ⌜ Fitting grown levels (now xs) ⌝ }
     requires { ⌜ 2 ^ k ≤ length (now a) ⌝ }
     requires { ⌜ 2 ^ k ≤ length (now b) ⌝ }
-    ensures { λ _. ⌜ now (xs .exit) ≡ levelsBack levels k (now (xs .entry)) ⌝ }
+    ensures { λ _. ⌜ now (xs .exit) ≡ levelsBack lineBack levels k (now (xs .entry)) ⌝ }
 {
     if levels == 0 {
         return;
@@ -82,10 +88,10 @@ pub fn forward(k: u32, levels: u32, xs: &mut [i32])
     requires { ⌜ levels ≤ k ⌝ }
     requires { ⌜ length (now xs) ≡ 4 ^ k ⌝ }
     requires { ⌜ Fitting forth levels (now xs) ⌝ }
-    ensures { λ _. ⌜ now (xs .exit) ≡ levelsForward levels k (now (xs .entry)) ⌝ }
+    ensures { λ _. ⌜ now (xs .exit) ≡ levelsForward lineForward levels k (now (xs .entry)) ⌝ }
 {
-    let mut a = [0i32; 256];
-    let mut b = [0i32; 256];
+    let mut a = [0i32; LONGEST];
+    let mut b = [0i32; LONGEST];
     forward_in(k, levels, xs, &mut a, &mut b);
 }
 
@@ -95,9 +101,9 @@ pub fn back(k: u32, levels: u32, xs: &mut [i32])
     requires { ⌜ levels ≤ k ⌝ }
     requires { ⌜ length (now xs) ≡ 4 ^ k ⌝ }
     requires { ⌜ Fitting grown levels (now xs) ⌝ }
-    ensures { λ _. ⌜ now (xs .exit) ≡ levelsBack levels k (now (xs .entry)) ⌝ }
+    ensures { λ _. ⌜ now (xs .exit) ≡ levelsBack lineBack levels k (now (xs .entry)) ⌝ }
 {
-    let mut a = [0i32; 256];
-    let mut b = [0i32; 256];
+    let mut a = [0i32; LONGEST];
+    let mut b = [0i32; LONGEST];
     back_in(k, levels, xs, &mut a, &mut b);
 }

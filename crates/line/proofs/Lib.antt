@@ -3,3 +3,4 @@ pub mod Sized
 pub mod Pairs
 pub mod Lines
 pub mod Near
+pub mod FiveThree

@@ -10,13 +10,9 @@ use Rattle.paper.specs.Lists.{at}
 use Rattle.paper.specs.Line.{evenAt, oddAt, lineBack}
 use Rattle.lift.specs.Off.{Off}
 use Rattle.lift.proofs.Near.{wider, even-near, odd-near}
+use Rattle.line.specs.Rule.{Near}
 use Rattle.line.proofs.Lines.{back-even, back-odd}
 use Rattle.line.proofs.Pairs.{by-turns}
-
--- the first n numbers differ by at most a, and those from there up to m by at most e
-pub record Near (n m a e : ℕ) (xs ys : List ℤ) : Type 0 where
-  pub low : (i : ℕ) → i < n → Off a (at xs i) (at ys i)
-  pub rest : (i : ℕ) → n ≤ i → i < m → Off e (at xs i) (at ys i)
 
 module _ (h a e : ℕ) (xs ys : List ℤ) (N : Near h (2 * h) a e xs ys) where
   even-at-near : (i : ℕ) → i < h → Off (a + (e + 1) / 2) (evenAt xs h i) (evenAt ys h i)

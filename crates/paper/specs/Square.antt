@@ -31,25 +31,25 @@ line j down xs l = made (2 ^ j) (λ i. at xs (placeOf j down l i))
 unfoldable pub along : (List ℤ → List ℤ) → ℕ → Bool → List ℤ → List ℤ
 along f j down xs = made (4 ^ j) (λ z. at (f (line j down xs (lineOf j down z))) (spotOf j down z))
 
--- a level transforms every row, then every column; its inverse the columns before the rows
-unfoldable pub levelForward : ℕ → List ℤ → List ℤ
-levelForward j xs = along lineForward j true (along lineForward j false xs)
+-- a level transforms every row, then every column, by the rule f of a line; its inverse, by g, the columns before the rows
+unfoldable pub levelForward : (List ℤ → List ℤ) → ℕ → List ℤ → List ℤ
+levelForward f j xs = along f j true (along f j false xs)
 
-unfoldable pub levelBack : ℕ → List ℤ → List ℤ
-levelBack j ys = along lineBack j false (along lineBack j true ys)
+unfoldable pub levelBack : (List ℤ → List ℤ) → ℕ → List ℤ → List ℤ
+levelBack g j ys = along g j false (along g j true ys)
 
 -- the first n numbers changed by f
 unfoldable pub onFirst : ℕ → (List ℤ → List ℤ) → List ℤ → List ℤ
 onFirst n f xs = f (take n xs) ++ drop n xs
 
 -- L levels of a square of side 2 ^ k: the next level takes the upper left quarter; the inverse undoes the last level first
-unfoldable pub levelsForward : ℕ → ℕ → List ℤ → List ℤ
-levelsForward zero k xs = xs
-levelsForward (suc L) k xs = onFirst (4 ^ (k - 1)) (levelsForward L (k - 1)) (levelForward k xs)
+unfoldable pub levelsForward : (List ℤ → List ℤ) → ℕ → ℕ → List ℤ → List ℤ
+levelsForward f zero k xs = xs
+levelsForward f (suc L) k xs = onFirst (4 ^ (k - 1)) (levelsForward f L (k - 1)) (levelForward f k xs)
 
-unfoldable pub levelsBack : ℕ → ℕ → List ℤ → List ℤ
-levelsBack zero k ys = ys
-levelsBack (suc L) k ys = levelBack k (onFirst (4 ^ (k - 1)) (levelsBack L (k - 1)) ys)
+unfoldable pub levelsBack : (List ℤ → List ℤ) → ℕ → ℕ → List ℤ → List ℤ
+levelsBack g zero k ys = ys
+levelsBack g (suc L) k ys = levelBack g k (onFirst (4 ^ (k - 1)) (levelsBack g L (k - 1)) ys)
 
 -- each grey less 128, at its Z place
 unfoldable pub lowered : ℕ → List ℕ → List ℤ
@@ -68,9 +68,9 @@ grey (negsuc g) = 0
 unfoldable pub pictured : ℕ → List ℤ → List ℕ
 pictured k greys = made (4 ^ k) (λ place. grey (at greys (zOf k place)))
 
--- the wavelet numbers of a picture, and the greys that wavelet numbers give back
+-- the wavelet numbers of a picture by the 5/3 rule, and the greys that wavelet numbers give back
 unfoldable pub numbersOf : ℕ → ℕ → List ℕ → List ℤ
-numbersOf k L picture = levelsForward L k (lowered k picture)
+numbersOf k L picture = levelsForward lineForward L k (lowered k picture)
 
 unfoldable pub greysOf : ℕ → ℕ → List ℤ → List ℤ
-greysOf k L numbers = raised k (levelsBack L k numbers)
+greysOf k L numbers = raised k (levelsBack lineBack L k numbers)

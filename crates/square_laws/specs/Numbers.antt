@@ -11,14 +11,17 @@ use lib.IntN.{ℤ, pos, natAbs, _-ℤ_}
 use borrow.Author.Tests.{leb-true, le-leb}
 use Rattle.paper.specs.Sizes.{mostLevels, numberLimit, numbersIn}
 use Rattle.paper.specs.Places.{rasterOf}
-use Rattle.paper.specs.Square.{levelsBack, lowered, raised, numbersOf, greysOf}
+use Rattle.paper.specs.Line.{lineForward}
+use Rattle.paper.specs.Square.{levelsForward, levelsBack, lowered, raised, numbersOf, greysOf}
 use Rattle.integer_laws.specs.Difference.{sub-⊖}
 use Rattle.integer_laws.specs.Order.{Within, zarith}
 use Rattle.sizes.proofs.Ranges.{both-first, both-second}
 use Rattle.lift.proofs.Steps.{grow, zero-within}
-use Rattle.line.specs.Each.{Each}
+use Rattle.line.specs.Each.{Each, lineLimit}
+use Rattle.line.specs.Rule.{Rule}
 use Rattle.list_laws.specs.Made.{length-made}
 use Rattle.line.proofs.Sized.{each-made}
+use Rattle.line.proofs.FiveThree.{fiveThree}
 use Rattle.square_laws.specs.Undone.{length-levels}
 use Rattle.square_laws.specs.Sizes.{levels-each}
 use Rattle.square_laws.specs.Range.{levels-range, grown-most}
@@ -50,23 +53,23 @@ pub lowered-each : (k : ℕ) (picture : List ℕ) → Bytes picture → Each 128
 unfolding lowered
 lowered-each k picture B = each-made (4 ^ k) _ (λ z h. lowered-within _ (B (rasterOf k z)))
 
--- five levels stay within 131,072
-pub numbers-each : (L k : ℕ) (picture : List ℕ) → L ≤ k → Bytes picture → Each (128 * 4 ^ L) (numbersOf k L picture)
-unfolding numbersOf
-numbers-each L k picture h B = levels-each 128 L k (lowered k picture) h (length-lowered k picture) (lowered-each k picture B)
+-- the levels of a picture stay within the limit
+pub levels-in : (R : Rule) (L k : ℕ) (picture : List ℕ) → L ≤ mostLevels → L ≤ k → Bytes picture → numbersIn (levelsForward (R .forward) L k (lowered k picture)) ≡ true
+levels-in R L k picture l h B = each-in _ (λ z. grow (levels-each R 128 L k (lowered k picture) h (length-lowered k picture) (lowered-each k picture B) z) (omega (arith, pow-le-pow-right {n = 4} (lit< tt) {i = L} {j = mostLevels} l)))
 
 pub numbers-in : (L k : ℕ) (picture : List ℕ) → L ≤ mostLevels → L ≤ k → Bytes picture → numbersIn (numbersOf k L picture) ≡ true
-numbers-in L k picture l h B = each-in _ (λ z. grow (numbers-each L k picture h B z) (omega (arith, pow-le-pow-right {n = 4} (lit< tt) {i = L} {j = mostLevels} l)))
+unfolding numbersOf
+numbers-in = levels-in fiveThree
 
 pub length-numbers : (L k : ℕ) (picture : List ℕ) → length (numbersOf k L picture) ≡ 4 ^ k
 unfolding numbersOf
-length-numbers L k picture = length-levels L k _ (length-lowered k picture)
+length-numbers L k picture = length-levels lineForward L k _ (length-lowered k picture)
 
 -- ---- and back
 pub length-greys : (k L : ℕ) (numbers : List ℤ) → length (greysOf k L numbers) ≡ 4 ^ k
 unfolding greysOf raised
 length-greys k L numbers = length-made (4 ^ k) _
 
--- (7 * 5 + 1) times the limit is below 2 ^ 24
-pub backs-each : (L k : ℕ) (numbers : List ℤ) → L ≤ mostLevels → L ≤ k → length numbers ≡ 4 ^ k → numbersIn numbers ≡ true → Each (2 ^ 28) (levelsBack L k numbers)
-backs-each L k numbers l h e N z = grow (levels-range numberLimit L k numbers h e (in-each numbers N) z) (omega (arith, grown-most numberLimit L mostLevels l))
+-- (7 L + 1) times the limit is little enough for a line
+pub backs-each : (R : Rule) (L k : ℕ) (numbers : List ℤ) → L ≤ mostLevels → L ≤ k → length numbers ≡ 4 ^ k → numbersIn numbers ≡ true → Each lineLimit (levelsBack (R .back) L k numbers)
+backs-each R L k numbers l h e N z = grow (levels-range R numberLimit L k numbers h e (in-each numbers N) z) (omega (arith, grown-most numberLimit L mostLevels l))

@@ -15,6 +15,7 @@ use Rattle.integer_laws.specs.Order.{ints}
 use Rattle.places.proofs.Round.{z-below, raster-of-z}
 use Rattle.lift.specs.Off.{Over, Off}
 use Rattle.lift.proofs.Near.{overs}
+use Rattle.line.proofs.FiveThree.{fiveThree, five-three-undoes}
 use Rattle.list_laws.specs.Made.{length-made, getD-made}
 use Rattle.square_laws.specs.Undone.{levels-undone}
 use Rattle.square_laws.specs.Near.{levels-near}
@@ -55,7 +56,7 @@ picture-back k picture e B = ext-getD 0 _ picture (length-pictured k _ ∙ sym e
 
 pub lossless : (L k : ℕ) (picture : List ℕ) → L ≤ k → length picture ≡ 4 ^ k → Bytes picture → pictured k (greysOf k L (numbersOf k L picture)) ≡ picture
 unfolding greysOf numbersOf
-lossless L k picture h e B = ap (λ (xs : List ℤ). pictured k (raised k xs)) (levels-undone L k h (lowered k picture) (length-lowered k picture)) ∙ picture-back k picture e B
+lossless L k picture h e B = ap (λ (xs : List ℤ). pictured k (raised k xs)) (levels-undone five-three-undoes L k h (lowered k picture) (length-lowered k picture)) ∙ picture-back k picture e B
 
 -- ---- the error law
 over-raised : {B : ℕ} {x y : ℤ} → Over B x y → Over B (x +ℤ pos 128) (y +ℤ pos 128)
@@ -64,13 +65,14 @@ over-raised {B} {x} {y} = rw (split x, split y) (simp ints (omega overs))
 over-grey : {B : ℕ} {x y : ℤ} → Over B x y → grey x ≤ grey y + B
 over-grey {B} {x} {y} = rw (split x, split y) (simp grey-⊖ (omega overs))
 
+pub raised-near : (B k : ℕ) (xs ys : List ℤ) (z : ℕ) → z < 4 ^ k → Off B (at xs z) (at ys z) → Off B (at (raised k xs) z) (at (raised k ys) z)
+raised-near B k xs ys z h o = rw (at-raised k xs z h, at-raised k ys z h) (record { up = over-raised (o .up); down = over-raised (o .down) })
+
 -- greys before they are set into 0 to 255
 pub greys-near : (E L k : ℕ) (xs ys : List ℤ) → L ≤ k → length xs ≡ 4 ^ k → length ys ≡ 4 ^ k → ((z : ℕ) → z < 4 ^ k → Off E (at xs z) (at ys z))
     → (z : ℕ) → z < 4 ^ k → Off ((7 * L + 1) * E) (at (greysOf k L xs) z) (at (greysOf k L ys) z)
 unfolding greysOf
-greys-near E L k xs ys h a b N z l =
-    let o = levels-near E L k xs ys h a b N z l in
-    rw (at-raised k (levelsBack L k xs) z l, at-raised k (levelsBack L k ys) z l) (record { up = over-raised (o .up); down = over-raised (o .down) })
+greys-near E L k xs ys h a b N z l = raised-near _ k _ _ z l (levels-near fiveThree E L k xs ys h a b N z l)
 
 -- setting greys into 0 to 255 moves none of them further apart
 pub pictured-near : (B k : ℕ) (xs ys : List ℤ) → ((z : ℕ) → z < 4 ^ k → Off B (at xs z) (at ys z))

@@ -11,15 +11,13 @@ use lib.ListN.{length, take}
 use lib.Seq.{length-take-le}
 use lib.IntN.{ℤ}
 use Rattle.paper.specs.Lists.{at}
-use Rattle.paper.specs.Line.{lineBack}
 use Rattle.paper.specs.Square.{along, levelBack, onFirst, levelsBack}
 use Rattle.integer_laws.specs.Order.{Within}
 use Rattle.lift.proofs.Steps.{grow, zero-within}
 use Rattle.lift.proofs.Near.{off-zero, zero-off}
 use Rattle.line.specs.Each.{Each}
 use Rattle.line.proofs.Sized.{each-below}
-use Rattle.line.proofs.Lines.{back-each}
-use Rattle.line.proofs.Near.{Near}
+use Rattle.line.specs.Rule.{Near, Rule}
 use Rattle.square_laws.specs.Grid.{length-along, first-low, first-rest}
 use Rattle.square_laws.specs.Undone.{length-level-back, length-levels-back}
 use Rattle.square_laws.specs.Sizes.{take-each, along-each}
@@ -42,41 +40,42 @@ pub first-sized : {a e : ℕ} (n : ℕ) (f : List ℤ → List ℤ) (xs : List �
 first-sized n f xs e F R = record { low = λ z h. rw (first-low n f xs z e h) (F z); rest = λ z h. rw (first-rest n f xs z e h) (R z h) }
 
 -- ---- a level
--- zeros stay zeros
-zeros : (j : ℕ) (down : Bool) (ys : List ℤ) → Each 0 ys → Each 0 (along lineBack (suc j) down ys)
-zeros j down ys = along-each {A = 0} {B = 0} lineBack (suc j) down ys (λ vs e. back-each {M = 0} vs (2 ^ j) (e ∙ omega (arith, pow-suc 2 j)))
+module _ (R : Rule) (j : ℕ) where
+  -- zeros stay zeros
+  zeros : (down : Bool) (ys : List ℤ) → Each 0 ys → Each 0 (along (R .back) (suc j) down ys)
+  zeros down ys = along-each (R .back) (suc j) down ys (λ vs e. R .zeros (2 ^ j) vs (e ∙ omega (arith, pow-suc 2 j)))
 
-columns-zero : (j : ℕ) → Each 0 (along lineBack (suc j) true [])
-columns-zero j = zeros j true [] (λ z. zero-within 0)
+  columns-zero : Each 0 (along (R .back) (suc j) true [])
+  columns-zero = zeros true [] (λ z. zero-within 0)
 
-level-zero : (j : ℕ) → Each 0 (levelBack (suc j) [])
-unfolding levelBack
-level-zero j = zeros j false _ (columns-zero j)
+  level-zero : Each 0 (levelBack (R .back) (suc j) [])
+  unfolding levelBack
+  level-zero = zeros false _ columns-zero
 
-module _ (j a e : ℕ) (xs : List ℤ) (S : Sized (4 ^ j) a e xs) where
+module _ (R : Rule) (j a e : ℕ) (xs : List ℤ) (S : Sized (4 ^ j) a e xs) where
   near-zero : Near (4 ^ j) (4 ^ suc j) a e xs []
   near-zero = record { low = λ z h. off-zero (at xs z) (S .low z h); rest = λ z g h. off-zero (at xs z) (S .rest z g) }
 
   -- after the columns
-  pub columns-range : Each (a + 3 * e) (along lineBack (suc j) true xs)
-  columns-range = each-below (along lineBack (suc j) true xs)
-      (λ z h. zero-off _ _ (columns-zero j z) (columns-near j a e xs [] near-zero z (omega (arith, length-along lineBack (suc j) true xs))))
+  pub columns-range : Each (a + 3 * e) (along (R .back) (suc j) true xs)
+  columns-range = each-below (along (R .back) (suc j) true xs)
+      (λ z h. zero-off _ _ (columns-zero R j z) (columns-near R j a e xs [] near-zero z (omega (arith, length-along (R .back) (suc j) true xs))))
 
   -- and after the rows
-  pub level-range : Each (a + 7 * e) (levelBack (suc j) xs)
-  level-range = each-below (levelBack (suc j) xs)
-      (λ z h. zero-off _ _ (level-zero j z) (level-near j a e xs [] near-zero z (omega (arith, length-level-back (suc j) xs))))
+  pub level-range : Each (a + 7 * e) (levelBack (R .back) (suc j) xs)
+  level-range = each-below (levelBack (R .back) (suc j) xs)
+      (λ z h. zero-off _ _ (level-zero R j z) (level-near R j a e xs [] near-zero z (omega (arith, length-level-back (R .back) (suc j) xs))))
 
 -- ---- levels
-pub levels-range : (E L k : ℕ) (ys : List ℤ) → L ≤ k → length ys ≡ 4 ^ k → Each E ys → Each (grown E L) (levelsBack L k ys)
+pub levels-range : (R : Rule) (E L k : ℕ) (ys : List ℤ) → L ≤ k → length ys ≡ 4 ^ k → Each E ys → Each (grown E L) (levelsBack (R .back) L k ys)
 unfolding levelsBack grown
-levels-range E zero k ys h p N = N
-levels-range E (suc L) zero ys h p N = absurd (not-suc-le-zero h)
-levels-range E (suc L) (suc k) ys h p N =
+levels-range R E zero k ys h p N = N
+levels-range R E (suc L) zero ys h p N = absurd (not-suc-le-zero h)
+levels-range R E (suc L) (suc k) ys h p N =
     let r : suc k - 1 ≡ k = omega arith in
     let short : length (take (4 ^ k) ys) ≡ 4 ^ k = length-take-le (4 ^ k) ys (omega (arith, pow-suc 4 k)) in
-    rw r (level-range k (grown E L) E (onFirst (4 ^ k) (levelsBack L k) ys)
-    (first-sized (4 ^ k) (levelsBack L k) ys (length-levels-back L k _ short) (levels-range E L k (take (4 ^ k) ys) (le-of-suc-le-suc h) short (take-each (4 ^ k) ys N)) (λ z b. N z)))
+    rw r (level-range R k (grown E L) E (onFirst (4 ^ k) (levelsBack (R .back) L k) ys)
+    (first-sized (4 ^ k) (levelsBack (R .back) L k) ys (length-levels-back (R .back) L k _ short) (levels-range R E L k (take (4 ^ k) ys) (le-of-suc-le-suc h) short (take-each (4 ^ k) ys N)) (λ z b. N z)))
 
 pub grown-least : (E L : ℕ) → E ≤ grown E L
 unfolding grown

@@ -10,13 +10,12 @@ use lib.ListN.{length, take, length-take, List·getD-eq-default}
 use lib.Seq.{length-take-le, getD-take}
 use lib.IntN.{ℤ, pos}
 use Rattle.paper.specs.Lists.{at}
-use Rattle.paper.specs.Line.{lineForward}
 use Rattle.paper.specs.Square.{line, along, levelForward, onFirst, levelsForward}
 use Rattle.integer_laws.specs.Order.{Within}
 use Rattle.lift.proofs.Steps.{grow, zero-within}
 use Rattle.line.specs.Each.{Each}
+use Rattle.line.specs.Rule.{Rule}
 use Rattle.line.proofs.Sized.{each-below}
-use Rattle.line.proofs.Lines.{forward-each}
 use Rattle.square_laws.specs.Grid.{by-lines, length-line, at-line, length-along, at-along, first-low, first-rest, halved, quarter-le}
 use Rattle.square_laws.specs.Undone.{length-level, length-levels}
 
@@ -49,33 +48,33 @@ along-each {A} {B} f j down xs F E = each-below (along f j down xs)
     z (omega (arith, length-along f j down xs)))
 
 -- ---- forward
-pub pass-each : {M : ℕ} (j : ℕ) (down : Bool) (xs : List ℤ) → 0 < j → Each M xs → Each (2 * M) (along lineForward j down xs)
-pass-each j down xs h = along-each lineForward j down xs (λ ys e. forward-each ys (2 ^ (j - 1)) (e ∙ halved j h))
+pub pass-each : {M : ℕ} (R : Rule) (j : ℕ) (down : Bool) (xs : List ℤ) → 0 < j → Each M xs → Each (2 * M) (along (R .forward) j down xs)
+pass-each {M} R j down xs h = along-each (R .forward) j down xs (λ ys e. R .grows M (2 ^ (j - 1)) ys (e ∙ halved j h))
 
-pub level-each : {M : ℕ} (j : ℕ) (xs : List ℤ) → 0 < j → Each M xs → Each (4 * M) (levelForward j xs)
+pub level-each : {M : ℕ} (R : Rule) (j : ℕ) (xs : List ℤ) → 0 < j → Each M xs → Each (4 * M) (levelForward (R .forward) j xs)
 unfolding levelForward
-level-each j xs h E z = grow (pass-each j true _ h (pass-each j false xs h E) z) (omega arith)
+level-each R j xs h E z = grow (pass-each R j true _ h (pass-each R j false xs h E) z) (omega arith)
 
 pub le-mul-pow : (a L : ℕ) → a ≤ a * 4 ^ L
 le-mul-pow a zero = omega arith
 le-mul-pow a (suc L) = omega (arith, le-mul-pow a L, mul-assoc a (4 ^ L) 4 ∙ ap (λ (x : ℕ). a * x) (sym (pow-suc 4 L)))
 
-pub levels-each : (M L k : ℕ) (xs : List ℤ) → L ≤ k → length xs ≡ 4 ^ k → Each M xs → Each (M * 4 ^ L) (levelsForward L k xs)
+pub levels-each : (R : Rule) (M L k : ℕ) (xs : List ℤ) → L ≤ k → length xs ≡ 4 ^ k → Each M xs → Each (M * 4 ^ L) (levelsForward (R .forward) L k xs)
 unfolding levelsForward
-levels-each M zero k xs h e E = λ z. grow (E z) (omega arith)
-levels-each M (suc L) k xs h e E =
-    first-each (4 ^ (k - 1)) (levelsForward L (k - 1)) ys (length-levels L (k - 1) _ short)
-    (λ z. grow (levels-each (4 * M) L (k - 1) (take (4 ^ (k - 1)) ys) (omega arith) short (take-each (4 ^ (k - 1)) ys F) z) (omega (arith, same)))
+levels-each R M zero k xs h e E = λ z. grow (E z) (omega arith)
+levels-each R M (suc L) k xs h e E =
+    first-each (4 ^ (k - 1)) (levelsForward (R .forward) L (k - 1)) ys (length-levels (R .forward) L (k - 1) _ short)
+    (λ z. grow (levels-each R (4 * M) L (k - 1) (take (4 ^ (k - 1)) ys) (omega arith) short (take-each (4 ^ (k - 1)) ys F) z) (omega (arith, same)))
     (λ z. grow (F z) (omega (arith, same, le-mul-pow (4 * M) L)))
   where
     ys : List ℤ
-    ys = levelForward k xs
+    ys = levelForward (R .forward) k xs
 
     F : Each (4 * M) ys
-    F = level-each k xs (omega arith) E
+    F = level-each R k xs (omega arith) E
 
     short : length (take (4 ^ (k - 1)) ys) ≡ 4 ^ (k - 1)
-    short = length-take-le (4 ^ (k - 1)) ys (omega (arith, quarter-le k, length-level k xs))
+    short = length-take-le (4 ^ (k - 1)) ys (omega (arith, quarter-le k, length-level (R .forward) k xs))
 
     same : 4 * M * 4 ^ L ≡ M * 4 ^ suc L
     same = rw (pow-suc 4 L, mul-comm 4 M, mul-assoc M 4 (4 ^ L), mul-comm 4 (4 ^ L))

@@ -4,7 +4,11 @@ use Prim.Native.Nat.{ℕ, _-_, _/_, _^_, _<_}
 use native.Mathlib.Omega.{arith}
 use lib.ListN.{length}
 use lib.Seq.{length-take-le}
+use Rattle.paper.specs.Line.{lineBack}
 use Rattle.paper.specs.Square.{levelsBack}
+use Rattle.line.proofs.FiveThree.{fiveThree}
+use Rattle.pass.specs.Way.{way}
+use Rattle.levels.specs.Level.{levelWay}
 use Rattle.levels.proofs.Quarters.{quarter, half-le, part, back-left, back-fits, back-is}
 use borrow.Author.Needs.{needs}
 use borrow.Fn.Kinds.{In}
@@ -85,13 +89,14 @@ back-in-level-requires : (t : ℕ) → back-in-lts.Need-level-requires (
   level-reads.Asked,
   level-reads.Learnt,
 ) (back-in-at t) back-in.Post
+unfolding way
 back-in-level-requires t c κs =
     let v = c .before .before .before .before .before .before in
     let s = v .before .before .before .before .before in
     let k = s .args .k in
     let p = s .pre .1 in
     let q : length (s .args .xs .now) / 4 ≡ 4 ^ (k - 1) = quarter k (length (s .args .xs .now)) (omega arith) (p .1 .1 .0) in
-    let f = back-fits k (s .args .levels) (s .args .xs .now) _ _ (length (s .args .xs .now) / 4) (omega arith) (omega arith) (p .1 .1 .0) q (p .1 .1 .1 .0) (v .back-in .ensures) refl in
+    let f = back-fits fiveThree k (s .args .levels) (s .args .xs .now) _ _ (length (s .args .xs .now) / 4) (omega arith) (omega arith) (p .1 .1 .0) q (p .1 .1 .1 .0) (v .back-in .ensures) refl in
     (p .0, (omega arith, (search needs, (f .0, (f .1, (search needs, search needs))))))
 
 back-in-same-length : (t : ℕ) → back-in-lts.Need-same-length (
@@ -124,13 +129,14 @@ back-in-returns-2 : (t : ℕ) → back-in-lts.Need-returns-2 (
   level-reads.Asked,
   level-reads.Learnt,
 ) (back-in-at t) back-in.Post
+unfolding levelWay
 back-in-returns-2 t c =
     let w = c .before .before .before in
     let v = w .before .before .before .before .before .before .before in
     let s = v .before .before .before .before .before in
     let k = s .args .k in
     let q : length (s .args .xs .now) / 4 ≡ 4 ^ (k - 1) = quarter k (length (s .args .xs .now)) (omega arith) (s .pre .1 .1 .1 .0) in
-    back-is k (s .args .levels) (s .args .xs .now) _ _ _ (length (s .args .xs .now) / 4) (omega arith) q (v .back-in .ensures) refl (w .level .ensures)
+    back-is lineBack k (s .args .levels) (s .args .xs .now) _ _ _ (length (s .args .xs .now) / 4) (omega arith) q (v .back-in .ensures) refl (w .level .ensures)
 
 pub +back-in-spec : {M : Type 1} → statement M
 +back-in-spec = close μ-back-in λ t. back-in-lts.spec (

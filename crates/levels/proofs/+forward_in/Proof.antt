@@ -5,7 +5,11 @@ use Prim.Native.Nat.{ℕ, _-_, _/_, _^_, _<_}
 use native.Mathlib.Omega.{arith}
 use lib.ListN.{length}
 use lib.Seq.{length-take-le}
+use Rattle.paper.specs.Line.{lineForward}
 use Rattle.paper.specs.Square.{levelsForward}
+use Rattle.line.proofs.FiveThree.{fiveThree}
+use Rattle.pass.specs.Way.{way}
+use Rattle.levels.specs.Level.{levelWay}
 use Rattle.levels.proofs.Quarters.{length-way, quarter, half-le, part, forward-fits, forward-left, forward-is}
 use borrow.Fn.Kinds.{In}
 use borrow.Fn.PlainCycle.{Measures, is, falls, and}
@@ -42,10 +46,11 @@ forward-in-level-requires : (t : ℕ) → forward-in-lts.Need-level-requires (
   forward-in-below t,
   forward-in.Post,
 ) (forward-in-at t) forward-in.Post
+unfolding way
 forward-in-level-requires t c κs =
     let s = c .before .before .before .before in
     let p = s .pre .1 in
-    let f = forward-fits (s .args .k) (s .args .levels) (s .args .xs .now) (omega arith) (omega arith) (p .1 .1 .1 .0) in
+    let f = forward-fits fiveThree (s .args .k) (s .args .levels) (s .args .xs .now) (omega arith) (omega arith) (p .1 .1 .1 .0) in
     (p .0, (omega arith, (p .1 .1 .0, (f .0, (f .1, (p .1 .1 .1 .1 .0, p .1 .1 .1 .1 .1))))))
 
 forward-in-sub-forward-in : (t : ℕ) → forward-in-lts.Need-sub-forward-in (
@@ -87,6 +92,7 @@ forward-in-forward-in-requires : (t : ℕ) → forward-in-lts.Need-forward-in-re
   forward-in-below t,
   forward-in.Post,
 ) (forward-in-at t) forward-in.Post
+unfolding levelWay
 forward-in-forward-in-requires t c κs =
     let v = c .before .before .before .before .before .before in
     let s = v .before .before .before .before .before in
@@ -95,7 +101,7 @@ forward-in-forward-in-requires t c κs =
     let e = v .level .ensures in
     let n = ap length e ∙ length-way false k (s .args .xs .now) in
     let q : length (s .args .xs .now) / 4 ≡ 4 ^ (k - 1) = quarter k (length (s .args .xs .now)) (omega arith) (p .1 .1 .0) in
-    (omega arith, (omega arith, (omega arith, (part _ _ _ q (omega arith), (forward-left k (s .args .levels) (s .args .xs .now) (omega arith) (omega arith) (p .1 .1 .1 .0) (length (s .args .xs .now) / 4) _ e, (omega (arith, half-le k), omega (arith, half-le k)))))))
+    (omega arith, (omega arith, (omega arith, (part _ _ _ q (omega arith), (forward-left fiveThree k (s .args .levels) (s .args .xs .now) (omega arith) (omega arith) (p .1 .1 .1 .0) (length (s .args .xs .now) / 4) _ e, (omega (arith, half-le k), omega (arith, half-le k)))))))
 
 forward-in-same-length : (t : ℕ) → forward-in-lts.Need-same-length (
   level-reads.Asked,
@@ -127,13 +133,14 @@ forward-in-returns-2 : (t : ℕ) → forward-in-lts.Need-returns-2 (
   forward-in-below t,
   forward-in.Post,
 ) (forward-in-at t) forward-in.Post
+unfolding levelWay
 forward-in-returns-2 t c =
     let w = c .before .before .before in
     let v = w .before .before .before .before .before .before .before in
     let s = v .before .before .before .before .before in
     let k = s .args .k in
     let q : length (s .args .xs .now) / 4 ≡ 4 ^ (k - 1) = quarter k (length (s .args .xs .now)) (omega arith) (s .pre .1 .1 .1 .0) in
-    forward-is k (s .args .levels) (s .args .xs .now) _ _ _ (omega arith) q (v .level .ensures) (w .forward-in .ensures)
+    forward-is lineForward k (s .args .levels) (s .args .xs .now) _ _ _ (omega arith) q (v .level .ensures) (w .forward-in .ensures)
 
 pub +forward-in-spec : {M : Type 1} → statement M
 +forward-in-spec = close μ-forward-in λ t. forward-in-lts.spec (

@@ -2,6 +2,7 @@
 use mathlib.Core.Path.{ap, _∙_}
 use native.Mathlib.Omega.{arith}
 use lib.ListN.{length}
+use Rattle.paper.specs.Line.{lineForward}
 use Rattle.paper.specs.Square.{levelsForward, numbersOf}
 use Rattle.sizes.proofs.Ranges.{size-high, levels-few, levels-less}
 use Rattle.square_laws.specs.Numbers.{length-lowered, numbers-in}
@@ -34,7 +35,7 @@ returns c =
     let a = s .args in
     let p = s .pre in
     let b = v .before .before .shared-slice-known .given in
-    let e = w .forward .ensures ∙ ap (levelsForward (a .levels) (a .k)) (v .lower .ensures) in
+    let e = w .forward .ensures ∙ ap (levelsForward lineForward (a .levels) (a .k)) (v .lower .ensures) in
     (e, rw e (numbers-in (a .levels) (a .k) (a .picture .now) (levels-few (a .k) (a .levels) (p .1 .0)) (omega (arith, levels-less (a .k) (a .levels) (p .1 .0))) (λ i. omega (arith, b i))))
 
 pub to-numbers-spec : {M : Type 1} → statement M
