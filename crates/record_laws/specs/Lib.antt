@@ -2,6 +2,7 @@
 pub mod Kept
 pub mod Turn
 pub mod Packing
+pub mod Counts
 pub mod Written
 pub mod ReadBack
 pub mod BothJobs
