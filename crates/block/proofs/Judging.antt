@@ -8,7 +8,7 @@ use lib.ListN.{drop}
 use borrow.Author.Tests.{eq-eqb, le-leb, not-true, not-false}
 use Rattle.paper.specs.Sizes.{sizeIn, levelsIn, planesIn}
 use Rattle.paper.specs.Bits.{bits, allZero}
-use Rattle.paper.specs.Block.{isLabel, edition, byteAt, labelOf, countOf, payloadStart, payloadBits, payloadOf, fieldsRight}
+use Rattle.paper.specs.Block.{isLabel, edition, byteAt, labelOf, countOf, payloadBits, payloadOf, fieldsRight}
 use Rattle.block.proofs.Blocks.{Fields, fields-split}
 
 -- t is the code's answer, b the definition's
@@ -20,16 +20,16 @@ module _ (t b : Bool) (same : t ≡ b) where
   granted on = sym same ∙ not-false t on
 
 -- one wrong field is enough
-pub refused : (block : List ℕ) → (Fields block → ⊥) → false ≡ fieldsRight payloadStart block
-refused block wrong = judge (fieldsRight payloadStart block) refl
+pub refused : (start : ℕ) (block : List ℕ) → (Fields start block → ⊥) → false ≡ fieldsRight start block
+refused start block wrong = judge (fieldsRight start block) refl
   where
-    judge : (b : Bool) → fieldsRight payloadStart block ≡ b → false ≡ fieldsRight payloadStart block
-    judge true h = absurd (wrong (fields-split block h))
+    judge : (b : Bool) → fieldsRight start block ≡ b → false ≡ fieldsRight start block
+    judge true h = absurd (wrong (fields-split start block h))
     judge false h = sym h
 
 -- where the other fields are right the unused bits decide
-pub unused-decide : (block : List ℕ) → byteAt block 0 ≡ edition → sizeIn (byteAt block 1) ≡ true → levelsIn (byteAt block 1) (byteAt block 2) ≡ true → planesIn (byteAt block 3) ≡ true
-    → isLabel (labelOf block) ≡ true → countOf block ≤ payloadBits payloadStart
-    → fieldsRight payloadStart block ≡ allZero (drop (countOf block) (bits (payloadOf payloadStart block)))
+pub unused-decide : (start : ℕ) (block : List ℕ) → byteAt block 0 ≡ edition → sizeIn (byteAt block 1) ≡ true → levelsIn (byteAt block 1) (byteAt block 2) ≡ true → planesIn (byteAt block 3) ≡ true
+    → isLabel (labelOf block) ≡ true → countOf block ≤ payloadBits start
+    → fieldsRight start block ≡ allZero (drop (countOf block) (bits (payloadOf start block)))
 unfolding fieldsRight
-unused-decide block e s l p c m = rw (eq-eqb _ _ e, s, l, p, c, le-leb (countOf block) 3936 m)
+unused-decide start block e s l p c m = rw (eq-eqb _ _ e, s, l, p, c, le-leb (countOf block) (payloadBits start) m)

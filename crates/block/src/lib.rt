@@ -1,20 +1,25 @@
 // A 512-byte block: made by value, and checked where it lies.
 ghost use mathlib.Core.Path.{_≡_};
 ghost use mathlib.Core.List.{_++_};
-ghost use Prim.Native.Nat.{_≤_};
+ghost use Prim.Native.Nat.{_-_, _≤_};
 ghost use lib.ListN.{length, take, drop, replicate};
 ghost use Rattle.paper.specs.Lists.{over};
-ghost use Rattle.paper.specs.Block.{edition, header, sealed, payloadStart, payloadBytes, fieldsRight, checksRight};
+ghost use Rattle.paper.specs.Block.{edition, blockBytes, headerBytes, checksStart, header, sealed, payloadStart, payloadBytes, fieldsRight, checksRight};
 ghost use Rattle.paper.specs.Jobs.{checkJob};
 
 const EDITION: u8 = 1;
 
-// Where the payload starts, where the checks stand, and the payload's bits.
-const PAYLOAD: usize = 16;
+// The bytes of a block, where its payload starts, and where its checks stand.
+pub const BLOCK: usize = 512;
 
-const CHECKS: usize = 508;
+pub const PAYLOAD: usize = 16;
 
-const PAYLOAD_BITS: usize = 8 * (CHECKS - PAYLOAD);
+pub const CHECKS: usize = 508;
+
+// The payload's bytes and bits.
+pub const PAYLOAD_BYTES: usize = CHECKS - PAYLOAD;
+
+pub const PAYLOAD_BITS: usize = 8 * PAYLOAD_BYTES;
 
 // `src` over the front of `dst`.
 pub fn copy_in(dst: &mut [u8], src: &[u8])
@@ -29,11 +34,11 @@ pub fn copy_in(dst: &mut [u8], src: &[u8])
 }
 
 // 512 zero bytes with the header in them: the single bytes first, and then the label's part.
-fn headed(k: u8, levels: u8, n: u8, label: &[u8], number: usize, count: usize) -> [u8; 512]
+fn headed(k: u8, levels: u8, n: u8, label: &[u8], number: usize, count: usize) -> [u8; BLOCK]
     requires { ⌜ length (now label) ≡ 8 ⌝ }
-    ensures { λ r. ⌜ r ≡ header edition k levels n (now (label .entry)) number count ++ replicate 496 0 ⌝ }
+    ensures { λ r. ⌜ r ≡ header edition k levels n (now (label .entry)) number count ++ replicate (blockBytes - headerBytes) 0 ⌝ }
 {
-    let mut block = [0u8; 512];
+    let mut block = [0u8; BLOCK];
     block[0] = EDITION;
     block[1] = k;
     block[2] = levels;
@@ -47,9 +52,9 @@ fn headed(k: u8, levels: u8, n: u8, label: &[u8], number: usize, count: usize) -
 }
 
 // The payload's part filled.
-fn with_payload(from: [u8; 512], payload: &[u8]) -> [u8; 512]
+fn with_payload(from: [u8; BLOCK], payload: &[u8]) -> [u8; BLOCK]
     requires { ⌜ length (now payload) ≡ payloadBytes payloadStart ⌝ }
-    ensures { λ r. ⌜ r ≡ take payloadStart from ++ (now (payload .entry) ++ drop 508 from) ⌝ }
+    ensures { λ r. ⌜ r ≡ take payloadStart from ++ (now (payload .entry) ++ drop checksStart from) ⌝ }
 {
     let mut block = from;
     copy_in(&mut block[PAYLOAD..CHECKS], payload);
@@ -57,8 +62,8 @@ fn with_payload(from: [u8; 512], payload: &[u8]) -> [u8; 512]
 }
 
 // The two checks added.
-fn with_checks(from: [u8; 512]) -> [u8; 512]
-    ensures { λ r. ⌜ r ≡ sealed (take 508 from) ⌝ }
+fn with_checks(from: [u8; BLOCK]) -> [u8; BLOCK]
+    ensures { λ r. ⌜ r ≡ sealed (take checksStart from) ⌝ }
 {
     let mut block = from;
     let a = sums::check_a(&block[0..CHECKS]);
@@ -79,7 +84,7 @@ pub fn made(
     number: usize,
     count: usize,
     payload: &[u8],
-) -> [u8; 512]
+) -> [u8; BLOCK]
     requires { ⌜ length (now label) ≡ 8 ⌝ }
     requires { ⌜ length (now payload) ≡ payloadBytes payloadStart ⌝ }
     ensures { λ r. ⌜ r ≡ sealed (header edition k levels n (now (label .entry)) number count ++ now (payload .entry)) ⌝ }
@@ -89,7 +94,7 @@ pub fn made(
 
 // Edition, k, L, n, label, payload count and the unused bits are right.
 fn fields_right(block: &[u8]) -> bool
-    requires { ⌜ length (now block) ≡ 512 ⌝ }
+    requires { ⌜ length (now block) ≡ blockBytes ⌝ }
     ensures { λ r. ⌜ r ≡ fieldsRight payloadStart (now (block .entry)) ⌝ }
 {
     if block[0] != EDITION {
@@ -117,7 +122,7 @@ fn fields_right(block: &[u8]) -> bool
 
 // A and B are right.
 fn checks_right(block: &[u8]) -> bool
-    requires { ⌜ length (now block) ≡ 512 ⌝ }
+    requires { ⌜ length (now block) ≡ blockBytes ⌝ }
     ensures { λ r. ⌜ r ≡ checksRight (now (block .entry)) ⌝ }
 {
     let body = &block[0..CHECKS];
@@ -131,7 +136,7 @@ fn checks_right(block: &[u8]) -> bool
 pub fn check(block: &[u8]) -> u32
     ensures { λ r. ⌜ r ≡ checkJob (now (block .entry)) ⌝ }
 {
-    if block.len() != 512 {
+    if block.len() != BLOCK {
         return 6;
     }
     if !checks_right(block) {

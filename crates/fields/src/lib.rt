@@ -3,7 +3,7 @@ ghost use mathlib.Core.Path.{_≡_};
 ghost use Prim.Native.Nat.{_+_, _<_, _≤_};
 ghost use lib.ListN.{length, drop};
 ghost use Rattle.paper.specs.Bits.{bits, allZero};
-ghost use Rattle.paper.specs.Block.{pairAt, sameBytes, labelCharacter, labelCharacters, isLabel};
+ghost use Rattle.paper.specs.Block.{blockBytes, pairAt, sameBytes, labelCharacter, labelCharacters, isLabel};
 
 // Two bytes at place i, high byte first.
 pub fn pair_at(block: &[u8], i: usize) -> usize
@@ -65,7 +65,7 @@ pub fn is_label(s: &[u8]) -> bool
 
 // No bit of the payload is set from the count-th on.
 pub fn unused_zero(payload: &[u8], count: usize) -> bool
-    requires { ⌜ length (now payload) ≤ 492 ⌝ }
+    requires { ⌜ length (now payload) ≤ blockBytes ⌝ }
     ensures { λ r. ⌜ r ≡ allZero (drop count (bits (now (payload .entry)))) ⌝ }
 {
     let end = 8 * payload.len();

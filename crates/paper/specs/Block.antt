@@ -52,15 +52,29 @@ twoBytes v = (v / 256 % 256) ∷ (v % 256) ∷ []
 abbrev pub edition : ℕ
 edition = 1
 
+-- the bytes of a block and of its header, and where the checks stand
+abbrev pub blockBytes : ℕ
+blockBytes = 512
+
+abbrev pub headerBytes : ℕ
+headerBytes = 16
+
+abbrev pub checksStart : ℕ
+checksStart = 508
+
 -- where the payload starts; how many bytes and bits it has, if it starts there
 abbrev pub payloadStart : ℕ
-payloadStart = 16
+payloadStart = headerBytes
 
 abbrev pub payloadBytes : ℕ → ℕ
-payloadBytes start = 508 - start
+payloadBytes start = checksStart - start
 
 abbrev pub payloadBits : ℕ → ℕ
 payloadBits start = 8 * payloadBytes start
+
+-- the numbers that two bytes hold: so many blocks can be numbered
+abbrev pub numberedBlocks : ℕ
+numberedBlocks = 65536
 
 -- bytes 0 to 15: edition, k, L, n, label, block number, payload bits in this block
 unfoldable pub header : ℕ → ℕ → ℕ → ℕ → List ℕ → ℕ → ℕ → List ℕ
@@ -91,7 +105,9 @@ payloadOf start block = take (payloadBytes start) (drop start block)
 
 -- A and B are right
 unfoldable pub checksRight : List ℕ → Bool
-checksRight block = eqb (pairAt block 508) (checkA (take 508 block)) && eqb (pairAt block 510) (checkB (take 508 block))
+checksRight block =
+    eqb (pairAt block checksStart) (checkA (take checksStart block))
+    && eqb (pairAt block (checksStart + 2)) (checkB (take checksStart block))
 
 -- edition, k, L, n, label, payload count and the unused bits are right
 unfoldable pub fieldsRight : ℕ → List ℕ → Bool
@@ -104,9 +120,9 @@ fieldsRight start block =
     && leb (countOf block) (payloadBits start)
     && allZero (drop (countOf block) (bits (payloadOf start block)))
 
--- the single-block check: 0, or 6, 8 or 9
-unfoldable pub blockRefusal : List ℕ → ℕ
-blockRefusal block =
-    unless 6 (eqb (length block) 512)
+-- why a block can't be taken by itself: 6, 8 or 9; 0 if it can
+unfoldable pub blockRefusal : ℕ → List ℕ → ℕ
+blockRefusal start block =
+    unless 6 (eqb (length block) blockBytes)
     (unless 8 (checksRight block)
-    (unless 9 (fieldsRight payloadStart block) 0))
+    (unless 9 (fieldsRight start block) 0))

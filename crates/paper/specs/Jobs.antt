@@ -11,7 +11,7 @@ use Rattle.paper.specs.Lists.{over}
 use Rattle.paper.specs.Square.{numbersOf, greysOf, pictured}
 use Rattle.paper.specs.Walk.{planeCount, codeOf, decodeOf, Settled}
 use Rattle.paper.specs.Bits.{bits, laid}
-use Rattle.paper.specs.Block.{isLabel, byteAt, payloadBytes, payloadStart, blockRefusal}
+use Rattle.paper.specs.Block.{isLabel, byteAt, blockBytes, payloadBytes, payloadStart, blockRefusal}
 use Rattle.paper.specs.Record.{blocksFor, recordOf, wholeBlocks, refusalAt, Run, runOf, bitsKept, payloadKept}
 
 -- rows 1 and 2, which five jobs judge first
@@ -110,14 +110,14 @@ unfoldable pub writingRefusal : ℕ → ℕ → ℕ → List ℕ → List ℕ �
 writingRefusal k L n label bytes b room =
     sizesRefusal k L
     (unless 5 (planesIn n)
-    (unless 6 (leb b (8 * length bytes) && leb b (mostBits k n) && leb (512 * blocksFor b) (length room))
+    (unless 6 (leb b (8 * length bytes) && leb b (mostBits k n) && leb (blockBytes * blocksFor b) (length room))
     (unless 7 (isLabel label) 0)))
 
 unfoldable pub writingJob : ℕ → ℕ → ℕ → List ℕ → List ℕ → ℕ → List ℕ → Writing
 writingJob k L n label bytes b room =
     judged (writingRefusal k L n label bytes b room)
     (λ r. record { refusal = r; blocks = 0; room = room })
-    (record { refusal = 0; blocks = blocksFor b; room = over (recordOf k L n label (take b (bits bytes))) room })
+    (record { refusal = 0; blocks = blocksFor b; room = over (recordOf payloadStart [] k L n label (take b (bits bytes))) room })
 
 -- ---- record reading: k, L, n, blocks kept, total bits, the number that ended the run; kept payload at the front of the room
 pub record Read : Type 0 where
@@ -133,8 +133,8 @@ pub record Read : Type 0 where
 -- if block 0 can't be kept the call is refused by its number
 unfoldable pub readingRefusal : List ℕ → List ℕ → List ℕ → ℕ
 readingRefusal s label room =
-    unless 6 (leb 512 (length s) && leb (payloadBytes payloadStart * wholeBlocks s) (length room))
-    (unless 7 (isLabel label) (refusalAt s label 0))
+    unless 6 (leb blockBytes (length s) && leb (payloadBytes payloadStart * wholeBlocks s) (length room))
+    (unless 7 (isLabel label) (refusalAt payloadStart s label 0))
 
 abbrev pub readRun : List ℕ → List ℕ → Run → Read
 readRun s room run = record {
@@ -143,17 +143,17 @@ readRun s room run = record {
   L = byteAt s 2;
   n = byteAt s 3;
   blocks = run .kept;
-  bits = bitsKept s (run .kept);
+  bits = bitsKept payloadStart s (run .kept);
   ended = run .ended;
-  room = over (payloadKept s (run .kept)) room;
+  room = over (payloadKept payloadStart s (run .kept)) room;
 }
 
 unfoldable pub readingJob : List ℕ → List ℕ → List ℕ → Read
 readingJob s label room =
     judged (readingRefusal s label room)
     (λ r. record { refusal = r; k = 0; L = 0; n = 0; blocks = 0; bits = 0; ended = 0; room = room })
-    (readRun s room (runOf s label))
+    (readRun s room (runOf payloadStart s label))
 
 -- ---- single-block check: 0, or 6, 8 or 9; it doesn't judge 10
 abbrev pub checkJob : List ℕ → ℕ
-checkJob block = blockRefusal block
+checkJob block = blockRefusal payloadStart block

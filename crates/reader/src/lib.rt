@@ -4,23 +4,17 @@ ghost use mathlib.Core.List.{_++_};
 ghost use Prim.Native.Nat.{_+_, _*_, _<_, _≤_};
 ghost use lib.ListN.{length, take, drop};
 ghost use Rattle.paper.specs.Lists.{joined, over};
-ghost use Rattle.paper.specs.Block.{countOf, payloadOf, payloadStart, payloadBytes, payloadBits};
+ghost use Rattle.paper.specs.Block.{blockBytes, numberedBlocks, countOf, payloadOf, payloadStart, payloadBytes, payloadBits};
 ghost use Rattle.paper.specs.Record.{blockAt, wholeBlocks, inTurn, turnRefusal, refusalAt, runOf, bitsKept, payloadKept};
-
-// The bytes of a block, of its payload, and the payload's bits; where the payload starts, and where the checks stand.
-const BLOCK: usize = 512;
-
-const PAYLOAD: usize = 492;
-
-const PAYLOAD_BITS: usize = 8 * PAYLOAD;
-
-const PAYLOAD_START: usize = 16;
-
-const CHECKS: usize = 508;
+use block::BLOCK;
+use block::CHECKS;
+use block::PAYLOAD;
+use block::PAYLOAD_BITS;
+use block::PAYLOAD_BYTES;
 
 // In its turn i: numbered so, with bytes 0 to 11 as block 0 said and the label expected.
 fn in_turn(first: &[u8], label: &[u8], i: usize, block: &[u8]) -> bool
-    requires { ⌜ length (now block) ≡ 512 ⌝ }
+    requires { ⌜ length (now block) ≡ blockBytes ⌝ }
     ensures { λ r. ⌜ r ≡ inTurn (now (first .entry)) (now (label .entry)) i (now (block .entry)) ⌝ }
 {
     if fields::pair_at(block, 12) != i {
@@ -36,7 +30,7 @@ fn in_turn(first: &[u8], label: &[u8], i: usize, block: &[u8]) -> bool
 // The judge of one block in its turn, by what block 0 said: why it can't be kept, 8, 9 or 10; 0 if it can.
 // Bytes that are no block at all are refused by 6, as the single-block check does.
 pub fn turn_refusal(first: &[u8], label: &[u8], i: usize, block: &[u8]) -> u32
-    ensures { λ r. ⌜ r ≡ turnRefusal (now (first .entry)) (now (label .entry)) i (now (block .entry)) ⌝ }
+    ensures { λ r. ⌜ r ≡ turnRefusal payloadStart (now (first .entry)) (now (label .entry)) i (now (block .entry)) ⌝ }
 {
     let refusal = block::check(block);
     if refusal > 0 {
@@ -51,8 +45,8 @@ pub fn turn_refusal(first: &[u8], label: &[u8], i: usize, block: &[u8]) -> u32
 
 // Block i of lent blocks, judged in its turn.
 fn refusal_at(blocks: &[u8], label: &[u8], i: usize) -> u32
-    requires { ⌜ 512 * i + 512 ≤ length (now blocks) ⌝ }
-    ensures { λ r. ⌜ r ≡ refusalAt (now (blocks .entry)) (now (label .entry)) i ⌝ }
+    requires { ⌜ blockBytes * i + blockBytes ≤ length (now blocks) ⌝ }
+    ensures { λ r. ⌜ r ≡ refusalAt payloadStart (now (blocks .entry)) (now (label .entry)) i ⌝ }
 {
     let start = BLOCK * i;
     let end = start + BLOCK;
@@ -62,7 +56,7 @@ fn refusal_at(blocks: &[u8], label: &[u8], i: usize) -> u32
 
 // The payload bits in block i.
 fn count_at(blocks: &[u8], i: usize) -> usize
-    requires { ⌜ 512 * i + 512 ≤ length (now blocks) ⌝ }
+    requires { ⌜ blockBytes * i + blockBytes ≤ length (now blocks) ⌝ }
     ensures { λ r. ⌜ r ≡ countOf (blockAt (now (blocks .entry)) i) ⌝ }
 {
     let start = BLOCK * i;
@@ -77,7 +71,7 @@ pub struct Run {
 
 // The longest run. Nothing is written before it is known.
 pub fn longest_run(blocks: &[u8], label: &[u8]) -> Run
-    ensures { λ r. ⌜ runOf (now (blocks .entry)) (now (label .entry)) ≡ record { kept = r .kept; ended = r .ended } ⌝ }
+    ensures { λ r. ⌜ runOf payloadStart (now (blocks .entry)) (now (label .entry)) ≡ record { kept = r .kept; ended = r .ended } ⌝ }
 {
     let whole = blocks.len() / BLOCK;
     let mut i = 0;
@@ -103,9 +97,9 @@ pub fn longest_run(blocks: &[u8], label: &[u8]) -> Run
 // The bits that kept blocks hold.
 pub fn bits_kept(blocks: &[u8], kept: usize) -> usize
     requires { ⌜ 0 < kept ⌝ }
-    requires { ⌜ kept ≤ 65536 ⌝ }
+    requires { ⌜ kept ≤ numberedBlocks ⌝ }
     requires { ⌜ kept ≤ wholeBlocks (now blocks) ⌝ }
-    ensures { λ r. ⌜ r ≡ bitsKept (now (blocks .entry)) kept ⌝ }
+    ensures { λ r. ⌜ r ≡ bitsKept payloadStart (now (blocks .entry)) kept ⌝ }
 {
     let last = kept - 1;
     PAYLOAD_BITS * last + count_at(blocks, last)
@@ -113,7 +107,7 @@ pub fn bits_kept(blocks: &[u8], kept: usize) -> usize
 
 // The first n payload bytes of block i, in their place; what lies before and behind is untouched.
 fn put_payload(room: &mut [u8], blocks: &[u8], i: usize, n: usize)
-    requires { ⌜ 512 * i + 512 ≤ length (now blocks) ⌝ }
+    requires { ⌜ blockBytes * i + blockBytes ≤ length (now blocks) ⌝ }
     requires { ⌜ payloadBytes payloadStart * i + n ≤ length (now room) ⌝ }
     requires { ⌜ n ≤ payloadBytes payloadStart ⌝ }
     ensures { λ _. ⌜ now (room .exit) ≡ take (payloadBytes payloadStart * i) (now (room .entry)) ++ (take n (payloadOf payloadStart (blockAt (now (blocks .entry)) i)) ++ drop (payloadBytes payloadStart * i + n) (now (room .entry))) ⌝ }
@@ -121,8 +115,8 @@ fn put_payload(room: &mut [u8], blocks: &[u8], i: usize, n: usize)
     let from = BLOCK * i;
     let to = from + BLOCK;
     let block = &blocks[from..to];
-    let payload = &block[PAYLOAD_START..CHECKS];
-    let start = PAYLOAD * i;
+    let payload = &block[PAYLOAD..CHECKS];
+    let start = PAYLOAD_BYTES * i;
     let end = start + n;
     block::copy_in(&mut room[start..end], &payload[0..n]);
 }
@@ -135,7 +129,7 @@ fn copy_full(room: &mut [u8], blocks: &[u8], full: usize)
 {
     let mut i = 0;
     while i < full {
-        put_payload(room, blocks, i, PAYLOAD);
+        put_payload(room, blocks, i, PAYLOAD_BYTES);
         i += 1;
     }
 }
@@ -145,10 +139,10 @@ pub fn copy_kept(room: &mut [u8], blocks: &[u8], kept: usize, bits: usize)
     requires { ⌜ 0 < kept ⌝ }
     requires { ⌜ kept ≤ wholeBlocks (now blocks) ⌝ }
     requires { ⌜ payloadBytes payloadStart * wholeBlocks (now blocks) ≤ length (now room) ⌝ }
-    requires { ⌜ bits ≡ bitsKept (now blocks) kept ⌝ }
+    requires { ⌜ bits ≡ bitsKept payloadStart (now blocks) kept ⌝ }
     requires { ⌜ bits ≤ payloadBits payloadStart * kept ⌝ }
-    requires { ⌜ kept ≤ 65536 ⌝ }
-    ensures { λ _. ⌜ now (room .exit) ≡ over (payloadKept (now (blocks .entry)) kept) (now (room .entry)) ⌝ }
+    requires { ⌜ kept ≤ numberedBlocks ⌝ }
+    ensures { λ _. ⌜ now (room .exit) ≡ over (payloadKept payloadStart (now (blocks .entry)) kept) (now (room .entry)) ⌝ }
 {
     let last = kept - 1;
     let used = (bits - PAYLOAD_BITS * last + 7) / 8;

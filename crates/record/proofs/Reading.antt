@@ -9,7 +9,7 @@ use lib.ListN.{length}
 use borrow.Author.Tests.{leb-true}
 use Rattle.paper.specs.Sizes.{unless, judged}
 use Rattle.paper.specs.Lists.{over}
-use Rattle.paper.specs.Block.{isLabel, byteAt}
+use Rattle.paper.specs.Block.{isLabel, byteAt, blockBytes, payloadStart, payloadBytes, payloadBits, numberedBlocks}
 use Rattle.paper.specs.Record.{wholeBlocks, refusalAt, runOf, bitsKept, payloadKept}
 use Rattle.paper.specs.Jobs.{readingRefusal, readRun, readingJob}
 use Rattle.sizes.proofs.Ranges.{both-first, both-second}
@@ -20,54 +20,54 @@ use Rattle.record.proofs.Table.{two-rows, rows-stand}
 
 -- rows 6 and 7, as they are judged from the lengths
 abbrev pub lent : ℕ → List ℕ → ℕ → ℕ
-lent blocks label room = unless 6 (leb 512 blocks && leb (492 * (blocks / 512)) room) (unless 7 (isLabel label) 0)
+lent blocks label room = unless 6 (leb blockBytes blocks && leb (payloadBytes payloadStart * (blocks / blockBytes)) room) (unless 7 (isLabel label) 0)
 
 -- the kept blocks as the functions that read and copy them ask for
 pub record Usable (s : List ℕ) (kept : ℕ) : Type 0 where
-  pub few : kept ≤ 65536
+  pub few : kept ≤ numberedBlocks
   pub whole : kept ≤ wholeBlocks s
-  pub most : bitsKept s kept ≤ 3936 * kept
+  pub most : bitsKept payloadStart s kept ≤ payloadBits payloadStart * kept
 
 module _ (s label room : List ℕ) where
   pub lent-refused : {r : ℕ} → r ≡ lent (length s) label (length room) → 0 < r → readingRefusal s label room ≡ r
   unfolding readingRefusal
-  lent-refused {r} e h = rows-stand 5 6 (leb 512 (length s) && leb (492 * (length s / 512)) (length room)) (isLabel label) (refusalAt s label 0) (omega arith) ∙ sym e
+  lent-refused {r} e h = rows-stand 5 6 (leb blockBytes (length s) && leb (payloadBytes payloadStart * wholeBlocks s) (length room)) (isLabel label) (refusalAt payloadStart s label 0) (omega arith) ∙ sym e
 
   module _ (passed : lent (length s) label (length room) ≡ 0) where
-    pub lent-passed : readingRefusal s label room ≡ refusalAt s label 0
+    pub lent-passed : readingRefusal s label room ≡ refusalAt payloadStart s label 0
     unfolding readingRefusal
-    lent-passed = two-rows 5 6 (leb 512 (length s) && leb (492 * (length s / 512)) (length room)) (isLabel label) (refusalAt s label 0) passed
+    lent-passed = two-rows 5 6 (leb blockBytes (length s) && leb (payloadBytes payloadStart * wholeBlocks s) (length room)) (isLabel label) (refusalAt payloadStart s label 0) passed
 
-    pub lent-both : (512 ≤ length s) × (492 * (length s / 512) ≤ length room)
+    pub lent-both : (blockBytes ≤ length s) × (payloadBytes payloadStart * wholeBlocks s ≤ length room)
     lent-both =
-        let both = row-passed 5 (leb 512 (length s) && leb (492 * (length s / 512)) (length room)) (unless 7 (isLabel label) 0) passed in
-        (leb-true _ _ (both-first (leb 512 (length s)) (leb (492 * (length s / 512)) (length room)) both), leb-true _ _ (both-second (leb 512 (length s)) (leb (492 * (length s / 512)) (length room)) both))
+        let both = row-passed 5 (leb blockBytes (length s) && leb (payloadBytes payloadStart * wholeBlocks s) (length room)) (unless 7 (isLabel label) 0) passed in
+        (leb-true _ _ (both-first (leb blockBytes (length s)) (leb (payloadBytes payloadStart * wholeBlocks s) (length room)) both), leb-true _ _ (both-second (leb blockBytes (length s)) (leb (payloadBytes payloadStart * wholeBlocks s) (length room)) both))
 
   pub read-refused : (r : ℕ) → readingRefusal s label room ≡ r → 0 < r → readingJob s label room ≡ record { refusal = r; k = 0; L = 0; n = 0; blocks = 0; bits = 0; ended = 0; room = room }
   unfolding readingJob
-  read-refused r e h = ap (λ q. judged q (λ r. record { refusal = r; k = 0; L = 0; n = 0; blocks = 0; bits = 0; ended = 0; room = room }) (readRun s room (runOf s label))) e ∙ refused-is r _ _ h
+  read-refused r e h = ap (λ q. judged q (λ r. record { refusal = r; k = 0; L = 0; n = 0; blocks = 0; bits = 0; ended = 0; room = room }) (readRun s room (runOf payloadStart s label))) e ∙ refused-is r _ _ h
 
-  module _ (kept ended : ℕ) (run : runOf s label ≡ record { kept = kept; ended = ended }) where
-    kept-is : (runOf s label) .kept ≡ kept
+  module _ (kept ended : ℕ) (run : runOf payloadStart s label ≡ record { kept = kept; ended = ended }) where
+    kept-is : (runOf payloadStart s label) .kept ≡ kept
     kept-is = ap (λ r. r .kept) run
 
     pub usable : Bytes s → Usable s kept
-    usable w = record { few = rw (← kept-is) (few-kept s label w); whole = rw (← kept-is) (whole-kept s label); most = rw (← kept-is) (most-kept s label) }
+    usable w = record { few = rw (← kept-is) (few-kept payloadStart s label w); whole = rw (← kept-is) (whole-kept payloadStart s label); most = rw (← kept-is) (most-kept payloadStart s label) }
 
     module _ (passed : lent (length s) label (length room) ≡ 0) where
       -- nothing is kept: the run ended with block 0's number
       pub none-kept : kept ≡ 0 → (readingRefusal s label room ≡ ended) × (0 < ended)
       none-kept z =
-          let (first, fails) = first-refused s label (omega (arith, lent-both passed .0)) (kept-is ∙ z) in
-          let e : (runOf s label) .ended ≡ ended = ap (λ r. r .ended) run in
+          let (first, fails) = first-refused payloadStart s label (omega (arith, lent-both passed .0)) (kept-is ∙ z) in
+          let e : (runOf payloadStart s label) .ended ≡ ended = ap (λ r. r .ended) run in
           let f : ended ≡ 0 → ⊥ = λ g. fails (e ∙ g) in
           (lent-passed passed ∙ first ∙ e, omega arith)
 
-      pub read-done : (bits : ℕ) (exit : List ℕ) → 0 < kept → bits ≡ bitsKept s kept → exit ≡ over (payloadKept s kept) room
+      pub read-done : (bits : ℕ) (exit : List ℕ) → 0 < kept → bits ≡ bitsKept payloadStart s kept → exit ≡ over (payloadKept payloadStart s kept) room
           → readingJob s label room ≡ record { refusal = 0; k = byteAt s 1; L = byteAt s 2; n = byteAt s 3; blocks = kept; bits = bits; ended = ended; room = exit }
       unfolding readingJob
       read-done bits exit h b e =
-          let some : 0 < (runOf s label) .kept = omega (arith, kept-is) in
-          done-is _ _ _ (lent-passed passed ∙ first-kept s label some)
+          let some : 0 < (runOf payloadStart s label) .kept = omega (arith, kept-is) in
+          done-is _ _ _ (lent-passed passed ∙ first-kept payloadStart s label some)
           ∙ ap (readRun s room) run
           ∙ (λ t. record { refusal = 0; k = byteAt s 1; L = byteAt s 2; n = byteAt s 3; blocks = kept; bits = sym b t; ended = ended; room = sym e t })

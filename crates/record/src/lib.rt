@@ -5,14 +5,11 @@ ghost use mathlib.Core.List.{List};
 ghost use Prim.Native.Nat.{ℕ, _*_, _/_};
 ghost use lib.Dec.{leb};
 ghost use Rattle.paper.specs.Sizes.{sizeIn, planesIn, mostBits, unless};
-ghost use Rattle.paper.specs.Block.{isLabel, payloadStart, payloadBytes};
+ghost use Rattle.paper.specs.Block.{isLabel, blockBytes, payloadStart, payloadBytes};
 ghost use Rattle.paper.specs.Record.{blocksFor};
 ghost use Rattle.paper.specs.Jobs.{sizesRefusal, writingJob, Read, readingJob};
-
-// The bytes of a block and of its payload.
-const BLOCK: usize = 512;
-
-const PAYLOAD: usize = 492;
+use block::BLOCK;
+use block::PAYLOAD_BYTES;
 
 // b bits are not beyond so many bytes. Compared by whole bytes, since eight times the bytes may not fit.
 fn lends(bytes: usize, b: usize) -> bool
@@ -32,7 +29,7 @@ fn lends(bytes: usize, b: usize) -> bool
 fn fits(k: u32, n: u32, bytes: usize, b: usize, room: usize) -> bool
     requires { ⌜ sizeIn k ≡ true ⌝ }
     requires { ⌜ planesIn n ≡ true ⌝ }
-    ensures { λ r. ⌜ r ≡ (leb b (8 * bytes) && leb b (mostBits k n) && leb (512 * blocksFor b) room) ⌝ }
+    ensures { λ r. ⌜ r ≡ (leb b (8 * bytes) && leb b (mostBits k n) && leb (blockBytes * blocksFor b) room) ⌝ }
 {
     if !lends(bytes, b) {
         return false;
@@ -62,7 +59,7 @@ fn write_refusal(
     b: usize,
     room: usize,
 ) -> u32
-    ensures { λ r. ⌜ r ≡ sizesRefusal k levels (unless 5 (planesIn n) (unless 6 (leb b (8 * bytes) && leb b (mostBits k n) && leb (512 * blocksFor b) room) (unless 7 (isLabel (now (label .entry))) 0))) ⌝ }
+    ensures { λ r. ⌜ r ≡ sizesRefusal k levels (unless 5 (planesIn n) (unless 6 (leb b (8 * bytes) && leb b (mostBits k n) && leb (blockBytes * blocksFor b) room) (unless 7 (isLabel (now (label .entry))) 0))) ⌝ }
 {
     let refusal = sizes::sizes_refusal(k, levels);
     if refusal > 0 {
@@ -118,12 +115,12 @@ pub fn write(
 
 // Row 6 of record reading, from the bytes in `blocks` and in `room`.
 fn holds(blocks: usize, room: usize) -> bool
-    ensures { λ r. ⌜ r ≡ (leb 512 blocks && leb (payloadBytes payloadStart * (blocks / 512)) room) ⌝ }
+    ensures { λ r. ⌜ r ≡ (leb blockBytes blocks && leb (payloadBytes payloadStart * (blocks / blockBytes)) room) ⌝ }
 {
     if blocks < BLOCK {
         return false;
     }
-    PAYLOAD * (blocks / BLOCK) <= room
+    PAYLOAD_BYTES * (blocks / BLOCK) <= room
 }
 
 #[repr(C)]

@@ -1,32 +1,33 @@
 -- The writing job and the reading job together: what one wrote, the other gives back.
 use mathlib.Core.Path.{_≡_, ap, _∙_}
 use mathlib.Core.Bool.{true, _&&_}
-use mathlib.Core.List.{List}
+use mathlib.Core.List.{List, []}
 use Prim.Native.Nat.{ℕ, _*_, _-_, _/_, _^_, _≤_, min}
-use native.Mathlib.Nat.{mul-le-mul}
+use native.Mathlib.Nat.{mul-le-mul, pow-le-pow-right}
 use native.Mathlib.Omega.{arith}
 use lib.Dec.{leb}
 use lib.ListN.{length, take}
 use lib.Seq.{length-take-le, take-append-le}
 use borrow.Author.Tests.{leb-true}
-use Rattle.sizes.proofs.Ranges.{both-first, both-second, area-most, planes-few}
+use Rattle.sizes.proofs.Ranges.{both-first, both-second, size-high, planes-few}
 use Rattle.sizes.proofs.Refusals.{row-passed, rows-left, size-accepted, levels-accepted, sizes-left, done-is}
 use Rattle.bits.proofs.OneBit.{bits-length}
-use Rattle.paper.specs.Sizes.{sizeIn, levelsIn, planesIn, mostBits}
+use Rattle.paper.specs.Sizes.{mostSize, mostPlanes, sizeIn, levelsIn, planesIn, mostBits}
 use Rattle.paper.specs.Lists.{over}
 use Rattle.paper.specs.Bits.{bits}
-use Rattle.paper.specs.Block.{isLabel}
+use Rattle.paper.specs.Block.{isLabel, blockBytes, payloadStart, payloadBytes, payloadBits, numberedBlocks}
 use Rattle.paper.specs.Record.{blocksFor, recordOf}
 use Rattle.paper.specs.Jobs.{writingRefusal, writingJob, readingJob}
+use Rattle.block.proofs.Blocks.{first-edition}
 use Rattle.record_laws.specs.Written.{Writable}
 use Rattle.record_laws.specs.ReadBack.{readBack, length-record, read-cut}
 
 -- the most bits of a coding are fewer than numbered blocks hold
-pub most-bits : (k n : ℕ) → sizeIn k ≡ true → planesIn n ≡ true → mostBits k n ≤ 3936 * 65536
+pub most-bits : (k n : ℕ) → sizeIn k ≡ true → planesIn n ≡ true → mostBits k n ≤ payloadBits payloadStart * numberedBlocks
 unfolding mostBits
 most-bits k n size planes =
-    let area : 4 ^ k ≤ 65536 = area-most k size in
-    let product : n * (4 * 4 ^ k - 1) ≤ 18 * (4 * 65536 - 1) = mul-le-mul {m₂ = 4 * 65536 - 1} (planes-few n planes) (omega arith) in
+    let area : 4 ^ k ≤ 4 ^ mostSize = pow-le-pow-right {n = 4} (omega arith) {i = k} {j = mostSize} (size-high k size) in
+    let product : n * (4 * 4 ^ k - 1) ≤ mostPlanes * (4 * 4 ^ mostSize - 1) = mul-le-mul {m₂ = 4 * 4 ^ mostSize - 1} (planes-few n planes) (omega arith) in
     omega arith
 
 -- what an accepted call of the writing job is given
@@ -36,7 +37,7 @@ pub record Accepted (k L n : ℕ) (label bytes : List ℕ) (b : ℕ) (room : Lis
   pub planes : planesIn n ≡ true
   pub lent : b ≤ 8 * length bytes
   pub bound : b ≤ mostBits k n
-  pub fits : 512 * blocksFor b ≤ length room
+  pub fits : blockBytes * blocksFor b ≤ length room
   pub labelled : isLabel label ≡ true
 
 module _ (k L n : ℕ) (label bytes : List ℕ) (b : ℕ) (room : List ℕ) (passed : writingRefusal k L n label bytes b room ≡ 0) where
@@ -45,7 +46,7 @@ module _ (k L n : ℕ) (label bytes : List ℕ) (b : ℕ) (room : List ℕ) (pas
   accepted =
       let bytes-hold = leb b (8 * length bytes) in
       let walk-has = leb b (mostBits k n) in
-      let room-holds = leb (512 * blocksFor b) (length room) in
+      let room-holds = leb (blockBytes * blocksFor b) (length room) in
       let five = sizes-left k L _ passed in
       let six = rows-left 4 (planesIn n) _ five in
       let seven = rows-left 5 (bytes-hold && walk-has && room-holds) _ six in
@@ -64,8 +65,9 @@ module _ (k L n : ℕ) (label bytes : List ℕ) (b : ℕ) (room : List ℕ) (pas
   pub length-given : length (take b (bits bytes)) ≡ b
   length-given = length-take-le b (bits bytes) (omega (arith, accepted .lent, bits-length bytes))
 
-  pub writable : Writable k L n label (take b (bits bytes))
+  pub writable : Writable payloadStart [] k L n label (take b (bits bytes))
   writable = record {
+    layout = first-edition;
     size = accepted .size;
     levels = accepted .levels;
     planes = accepted .planes;
@@ -74,17 +76,17 @@ module _ (k L n : ℕ) (label bytes : List ℕ) (b : ℕ) (room : List ℕ) (pas
   }
 
   -- the record stands at the front of the room
-  pub written : writingJob k L n label bytes b room ≡ record { refusal = 0; blocks = blocksFor b; room = over (recordOf k L n label (take b (bits bytes))) room }
+  pub written : writingJob k L n label bytes b room ≡ record { refusal = 0; blocks = blocksFor b; room = over (recordOf payloadStart [] k L n label (take b (bits bytes))) room }
   unfolding writingJob
   written = done-is _ _ _ passed
 
   -- any first part of it with a whole block, read with its label into enough room, gives back what was written, as much as its whole blocks hold
-  pub read-written : (m : ℕ) (lent : List ℕ) → 512 ≤ m → m ≤ 512 * blocksFor b → 492 * (m / 512) ≤ length lent
-      → readingJob (take m ((writingJob k L n label bytes b room) .room)) label lent ≡ readBack k L n (take b (bits bytes)) lent (m / 512)
+  pub read-written : (m : ℕ) (lent : List ℕ) → blockBytes ≤ m → m ≤ blockBytes * blocksFor b → payloadBytes payloadStart * (m / blockBytes) ≤ length lent
+      → readingJob (take m ((writingJob k L n label bytes b room) .room)) label lent ≡ readBack k L n (take b (bits bytes)) lent (m / blockBytes)
   read-written m lent h g r =
       let l = take b (bits bytes) in
-      let whole : length (recordOf k L n label l) ≡ 512 * blocksFor b = length-record k L n label l writable ∙ ap (λ c. 512 * blocksFor c) length-given in
-      let front : take m (over (recordOf k L n label l) room) ≡ take m (recordOf k L n label l) = take-append-le m (recordOf k L n label l) _ (omega arith) in
-      let blocks : min (m / 512) (blocksFor (length l)) ≡ m / 512 = omega (arith, ap blocksFor length-given) in
+      let whole : length (recordOf payloadStart [] k L n label l) ≡ blockBytes * blocksFor b = length-record payloadStart [] k L n label l writable ∙ ap (λ c. blockBytes * blocksFor c) length-given in
+      let front : take m (over (recordOf payloadStart [] k L n label l) room) ≡ take m (recordOf payloadStart [] k L n label l) = take-append-le m (recordOf payloadStart [] k L n label l) _ (omega arith) in
+      let blocks : min (m / blockBytes) (blocksFor (length l)) ≡ m / blockBytes = omega (arith, ap blocksFor length-given) in
       ap (λ w. readingJob (take m (w .room)) label lent) written ∙ ap (λ s. readingJob s label lent) front
       ∙ read-cut k L n label l writable m lent h (omega arith) ∙ ap (readBack k L n l lent) blocks

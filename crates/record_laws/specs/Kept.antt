@@ -8,24 +8,24 @@ use native.Mathlib.Decide.{decLt}
 use Rattle.paper.specs.Record.{blockAt, refusalAt, isFull, Run, runFrom}
 
 -- of the blocks from i on the last kept one, if there is one, is full
-abbrev pub LastFull : List ℕ → ℕ → ℕ → Type 0
-LastFull s i kept = (j : ℕ) → i ≤ j → suc j ≡ kept → isFull (blockAt s j) ≡ true
+abbrev pub LastFull : ℕ → List ℕ → ℕ → ℕ → Type 0
+LastFull start s i kept = (j : ℕ) → i ≤ j → suc j ≡ kept → isFull start (blockAt s j) ≡ true
 
 -- a run from block i on, where `left` whole blocks are left: what it keeps, and why it ends
-pub record Longest (s label : List ℕ) (left i : ℕ) (run : Run) : Type 0 where
+pub record Longest (start : ℕ) (s label : List ℕ) (left i : ℕ) (run : Run) : Type 0 where
   pub from : i ≤ run .kept
   pub to : run .kept ≤ i + left
   -- nothing is kept of a block that fails, and a short block is kept only as the last
-  pub passes : (j : ℕ) → i ≤ j → j < run .kept → refusalAt s label j ≡ 0
-  pub full : (j : ℕ) → i ≤ j → suc j < run .kept → isFull (blockAt s j) ≡ true
+  pub passes : (j : ℕ) → i ≤ j → j < run .kept → refusalAt start s label j ≡ 0
+  pub full : (j : ℕ) → i ≤ j → suc j < run .kept → isFull start (blockAt s j) ≡ true
   -- a whole block is left out behind a full one only if it fails, and its number is given
-  pub next : run .kept < i + left → LastFull s i (run .kept) → refusalAt s label (run .kept) ≡ run .ended
-  pub fails : run .kept < i + left → LastFull s i (run .kept) → run .ended ≡ 0 → ⊥
+  pub next : run .kept < i + left → LastFull start s i (run .kept) → refusalAt start s label (run .kept) ≡ run .ended
+  pub fails : run .kept < i + left → LastFull start s i (run .kept) → run .ended ≡ 0 → ⊥
   -- 0 if no block ended the run or if a short block ended it
   pub none : run .kept ≡ i + left → run .ended ≡ 0
-  pub short : (j : ℕ) → i ≤ j → suc j ≡ run .kept → isFull (blockAt s j) ≡ false → run .ended ≡ 0
+  pub short : (j : ℕ) → i ≤ j → suc j ≡ run .kept → isFull start (blockAt s j) ≡ false → run .ended ≡ 0
 
-module _ (s label : List ℕ) where
+module _ (start : ℕ) (s label : List ℕ) where
   below : {i j : ℕ} → i ≤ j → j < i → ⊥
   below h k = omega arith
 
@@ -37,24 +37,24 @@ module _ (s label : List ℕ) where
   never p q = let z : _≡_ {A = ℕ} 0 1 = cc in absurd (omega arith)
 
   -- a block that passes and is full goes before a run
-  behind : (left i : ℕ) (run : Run) → refusalAt s label i ≡ 0 → isFull (blockAt s i) ≡ true → Longest s label left (suc i) run → Longest s label (suc left) i run
+  behind : (left i : ℕ) (run : Run) → refusalAt start s label i ≡ 0 → isFull start (blockAt s i) ≡ true → Longest start s label left (suc i) run → Longest start s label (suc left) i run
   behind left i run e f g = record {
     from = omega (arith, g .from);
     to = omega (arith, g .to);
-    passes = λ j h k. at-or-behind (λ j. refusalAt s label j ≡ 0) e j h (λ m. g .passes j m k);
-    full = λ j h k. at-or-behind (λ j. isFull (blockAt s j) ≡ true) f j h (λ m. g .full j m k);
+    passes = λ j h k. at-or-behind (λ j. refusalAt start s label j ≡ 0) e j h (λ m. g .passes j m k);
+    full = λ j h k. at-or-behind (λ j. isFull start (blockAt s j) ≡ true) f j h (λ m. g .full j m k);
     next = λ h a. g .next (omega arith) (λ j m k. a j (omega arith) k);
     fails = λ h a. g .fails (omega arith) (λ j m k. a j (omega arith) k);
     none = λ h. g .none (omega arith);
-    short = λ j h k. at-or-behind (λ j. isFull (blockAt s j) ≡ false → run .ended ≡ 0) (never f) j h (λ m. g .short j m k);
+    short = λ j h k. at-or-behind (λ j. isFull start (blockAt s j) ≡ false → run .ended ≡ 0) (never f) j h (λ m. g .short j m k);
   }
 
   -- a short block ends the run
-  stops : (left i : ℕ) → refusalAt s label i ≡ 0 → isFull (blockAt s i) ≡ false → Longest s label (suc left) i (record { kept = suc i; ended = 0 })
+  stops : (left i : ℕ) → refusalAt start s label i ≡ 0 → isFull start (blockAt s i) ≡ false → Longest start s label (suc left) i (record { kept = suc i; ended = 0 })
   stops left i e f = record {
     from = omega arith;
     to = omega arith;
-    passes = λ j h k. at-or-behind (λ j. refusalAt s label j ≡ 0) e j h (λ m. absurd (below m k));
+    passes = λ j h k. at-or-behind (λ j. refusalAt start s label j ≡ 0) e j h (λ m. absurd (below m k));
     full = λ j h k. absurd (below h (omega arith));
     next = λ h a. never (a i (omega arith) refl) f;
     fails = λ h a. never (a i (omega arith) refl) f;
@@ -63,7 +63,7 @@ module _ (s label : List ℕ) where
   }
 
   -- a block that fails is not in it, and gives its number
-  refuses : (left i r : ℕ) → refusalAt s label i ≡ suc r → Longest s label (suc left) i (record { kept = i; ended = suc r })
+  refuses : (left i r : ℕ) → refusalAt start s label i ≡ suc r → Longest start s label (suc left) i (record { kept = i; ended = suc r })
   refuses left i r e = record {
     from = omega arith;
     to = omega arith;
@@ -75,7 +75,7 @@ module _ (s label : List ℕ) where
     short = λ j h k m. absurd (below h (omega arith));
   }
 
-  pub longest : (left i : ℕ) → Longest s label left i (runFrom s label left i)
+  pub longest : (left i : ℕ) → Longest start s label left i (runFrom start s label left i)
   unfolding runFrom
   longest zero i = record {
     from = omega arith;
@@ -87,24 +87,24 @@ module _ (s label : List ℕ) where
     none = λ e. refl;
     short = λ j h k e. refl;
   }
-  longest (suc left) i = go (refusalAt s label i) refl (isFull (blockAt s i)) refl (longest left (suc i))
+  longest (suc left) i = go (refusalAt start s label i) refl (isFull start (blockAt s i)) refl (longest left (suc i))
     where
-      go : (r : ℕ) → refusalAt s label i ≡ r → (f : Bool) → isFull (blockAt s i) ≡ f → Longest s label left (suc i) (runFrom s label left (suc i))
-          → Longest s label (suc left) i (elim r [
-            | zero ↦ elim f [ true ↦ runFrom s label left (suc i) | false ↦ record { kept = suc i; ended = 0 } ]
+      go : (r : ℕ) → refusalAt start s label i ≡ r → (f : Bool) → isFull start (blockAt s i) ≡ f → Longest start s label left (suc i) (runFrom start s label left (suc i))
+          → Longest start s label (suc left) i (elim r [
+            | zero ↦ elim f [ true ↦ runFrom start s label left (suc i) | false ↦ record { kept = suc i; ended = 0 } ]
             | suc r ↦ record { kept = i; ended = suc r }
           ])
-      go zero e true f g = behind left i (runFrom s label left (suc i)) e f g
+      go zero e true f g = behind left i (runFrom start s label left (suc i)) e f g
       go zero e false f g = stops left i e f
       go (suc r) e f′ f g = refuses left i r e
 
   -- where every block passes, and each but the last is full, all are kept
-  pub all-kept : (left i : ℕ) → ((j : ℕ) → j < i + left → refusalAt s label j ≡ 0) → ((j : ℕ) → suc j < i + left → isFull (blockAt s j) ≡ true) → runFrom s label left i ≡ record { kept = i + left; ended = 0 }
+  pub all-kept : (left i : ℕ) → ((j : ℕ) → j < i + left → refusalAt start s label j ≡ 0) → ((j : ℕ) → suc j < i + left → isFull start (blockAt s j) ≡ true) → runFrom start s label left i ≡ record { kept = i + left; ended = 0 }
   all-kept left i pass full =
       let g = longest left i in
-      let run = runFrom s label left i in
+      let run = runFrom start s label left i in
       let e : run .kept ≡ i + left = elim (decLt (run .kept) (i + left)) [
-        | yes h ↦ let a : LastFull s i (run .kept) = λ j m k. full j (omega arith) in absurd (g .fails h a (sym (g .next h a) ∙ pass (run .kept) h))
+        | yes h ↦ let a : LastFull start s i (run .kept) = λ j m k. full j (omega arith) in absurd (g .fails h a (sym (g .next h a) ∙ pass (run .kept) h))
         | no h ↦ omega (arith, g .to)
       ] in
       λ t. record { kept = e t; ended = g .none e t }

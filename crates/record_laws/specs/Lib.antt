@@ -1,7 +1,9 @@
 -- From lists in equal parts to what the reading job gives of a written record.
 pub mod Kept
 pub mod Turn
+pub mod Ended
 pub mod Packing
+pub mod Counts
 pub mod Written
 pub mod ReadBack
 pub mod BothJobs

@@ -7,7 +7,7 @@ use native.Mathlib.Nat.{mul-le-mul}
 use native.Mathlib.Omega.{arith}
 use lib.ListN.{length, drop, getD}
 use lib.Seq.{drop-cons, drop-length}
-use Rattle.paper.specs.Block.{plainSum, weighedSum}
+use Rattle.paper.specs.Block.{plainSum, weighedSum, checksStart}
 
 pub plain-more : (s : List ℕ) (i : ℕ) → i < length s → plainSum (drop i s) ≡ getD s i 0 + plainSum (drop (i + 1) s)
 unfolding plainSum
@@ -26,6 +26,6 @@ pub weighed-end : (s : List ℕ) (i : ℕ) → i ≡ length s → weighedSum i (
 unfolding weighedSum
 weighed-end s i e = ap (λ (n : ℕ). weighedSum i (drop n s)) e ∙ rw drop-length
 
--- one byte's share of B, so that 508 of them fit
-pub weighed-small : (i v : ℕ) → i < 508 → v ≤ 255 → (i + 1) * v ≤ 129540
-weighed-small i v hi hv = mul-le-mul {n₂ = 508} {m₂ = 255} (omega arith) hv
+-- one byte's share of B, so that as many as stand before the checks fit
+pub weighed-small : (i v : ℕ) → i < checksStart → v ≤ 255 → (i + 1) * v ≤ checksStart * 255
+weighed-small i v hi hv = mul-le-mul {n₂ = checksStart} {m₂ = 255} (omega arith) hv

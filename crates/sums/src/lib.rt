@@ -2,7 +2,7 @@
 ghost use mathlib.Core.Path.{_≡_};
 ghost use Prim.Native.Nat.{_≤_};
 ghost use lib.ListN.{length};
-ghost use Rattle.paper.specs.Block.{checkA, checkB};
+ghost use Rattle.paper.specs.Block.{checkA, checkB, checksStart};
 
 const MODULUS: u32 = 65521;
 
@@ -15,7 +15,7 @@ pub fn wide(x: u8) -> u32
 
 // Check A of `s`: the sum, modulo 65,521.
 pub fn check_a(s: &[u8]) -> u32
-    requires { ⌜ length (now s) ≤ 508 ⌝ }
+    requires { ⌜ length (now s) ≤ checksStart ⌝ }
     ensures { λ r. ⌜ r ≡ checkA (now (s .entry)) ⌝ }
 {
     let mut sum: u32 = 0;
@@ -29,7 +29,7 @@ pub fn check_a(s: &[u8]) -> u32
 
 // Check B of `s`: the sum in which byte i weighs i + 1, modulo 65,521.
 pub fn check_b(s: &[u8]) -> u32
-    requires { ⌜ length (now s) ≤ 508 ⌝ }
+    requires { ⌜ length (now s) ≤ checksStart ⌝ }
     ensures { λ r. ⌜ r ≡ checkB (now (s .entry)) ⌝ }
 {
     let mut sum: u32 = 0;

@@ -4,10 +4,12 @@ use mathlib.Core.Bool.{Bool, false}
 use mathlib.Core.List.{List, [], _∷_, _++_, append-assoc, append-nil}
 use Prim.Native.Nat.{ℕ, suc, _+_, _*_, _/_, _%_, _<_, _≤_}
 use native.Mathlib.Numerals.{add-one}
+use native.Mathlib.Nat.{mul-assoc}
 use native.Mathlib.Omega.{arith}
 use lib.ListN.{length, take, drop, getD, set}
 use lib.Seq.{drop-drop, drop-cons, drop-length, set-at}
 use Rattle.paper.specs.Bits.{bits, byteOf, packed}
+use Rattle.paper.specs.Block.{payloadBytes, payloadBits}
 use Rattle.paper.specs.Record.{bitsOfBlock}
 use Rattle.bits.specs.Bits.{kept, withBit}
 use Rattle.bits.proofs.Packing.{Bytes, packed-length, packed-before, packed-seam, packed-after}
@@ -54,7 +56,7 @@ module _ (l : List Bool) (out old : List ℕ) (start i : ℕ) (e : out ≡ packe
   filled h = e ∙ ap (λ a. packed a (drop (8 * start) l) ++ drop a old) h ∙ ap (λ r. packed (length old) (drop (8 * start) l) ++ r) (drop-length old) ∙ append-nil (packed (length old) (drop (8 * start) l))
 
 -- the payload of block i
-pub payload-is : (l : List Bool) (i : ℕ) → packed 492 (drop (8 * (492 * i)) l) ≡ packed 492 (bitsOfBlock l i)
-payload-is l i =
-    let place : 8 * (492 * i) ≡ 3936 * i = omega arith in
-    ap (λ a. packed 492 (drop a l)) place ∙ sym (packed-take 492 3936 (drop (3936 * i) l) (omega arith))
+pub payload-is : (start : ℕ) (l : List Bool) (i : ℕ) → packed (payloadBytes start) (drop (8 * (payloadBytes start * i)) l) ≡ packed (payloadBytes start) (bitsOfBlock start l i)
+payload-is start l i =
+    ap (λ a. packed (payloadBytes start) (drop a l)) (sym (mul-assoc 8 (payloadBytes start) i))
+    ∙ sym (packed-take (payloadBytes start) (payloadBits start) (drop (payloadBits start * i) l) (omega arith))

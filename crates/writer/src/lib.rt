@@ -1,19 +1,15 @@
 // The blocks of a record: cut from the first b bits of lent bytes, made by value, and put at the front of lent room.
 ghost use mathlib.Core.Path.{_≡_};
-ghost use mathlib.Core.List.{_++_};
+ghost use mathlib.Core.List.{[], _++_};
 ghost use Prim.Native.Nat.{_+_, _*_, _-_, _^_, _<_, _≤_, min};
 ghost use lib.ListN.{length, take, drop};
 ghost use Rattle.paper.specs.Lists.{joined};
 ghost use Rattle.paper.specs.Bits.{bits, byteOf, packed};
-ghost use Rattle.paper.specs.Block.{payloadStart, payloadBytes, payloadBits};
+ghost use Rattle.paper.specs.Block.{blockBytes, numberedBlocks, payloadStart, payloadBytes, payloadBits};
 ghost use Rattle.paper.specs.Record.{blocksFor, bitsOfBlock, blockOf};
-
-// The bytes of a block, of its payload, and the payload's bits.
-const BLOCK: usize = 512;
-
-const PAYLOAD: usize = 492;
-
-const PAYLOAD_BITS: usize = 8 * PAYLOAD;
+use block::BLOCK;
+use block::PAYLOAD_BITS;
+use block::PAYLOAD_BYTES;
 
 // The byte at a place, of the first b bits alone: bits after the b-th count as 0.
 fn byte_at(bytes: &[u8], b: usize, at: usize) -> u8
@@ -48,19 +44,19 @@ fn fill(out: &mut [u8], bytes: &[u8], b: usize, start: usize)
 }
 
 // The payload of block i.
-fn payload(bytes: &[u8], b: usize, i: usize) -> [u8; 492]
+fn payload(bytes: &[u8], b: usize, i: usize) -> [u8; PAYLOAD_BYTES]
     requires { ⌜ b ≤ 8 * length (now bytes) ⌝ }
-    requires { ⌜ i < 65536 ⌝ }
-    ensures { λ r. ⌜ r ≡ packed (payloadBytes payloadStart) (bitsOfBlock (take b (bits (now (bytes .entry)))) i) ⌝ }
+    requires { ⌜ i < numberedBlocks ⌝ }
+    ensures { λ r. ⌜ r ≡ packed (payloadBytes payloadStart) (bitsOfBlock payloadStart (take b (bits (now (bytes .entry)))) i) ⌝ }
 {
-    let mut out = [0u8; 492];
-    fill(&mut out, bytes, b, PAYLOAD * i);
+    let mut out = [0u8; PAYLOAD_BYTES];
+    fill(&mut out, bytes, b, PAYLOAD_BYTES * i);
     out
 }
 
 // The bits that block i holds.
 fn count_in(b: usize, i: usize) -> usize
-    requires { ⌜ i < 65536 ⌝ }
+    requires { ⌜ i < numberedBlocks ⌝ }
     ensures { λ r. ⌜ r ≡ min (payloadBits payloadStart) (b - payloadBits payloadStart * i) ⌝ }
 {
     let before = PAYLOAD_BITS * i;
@@ -76,11 +72,11 @@ fn count_in(b: usize, i: usize) -> usize
 }
 
 // Block i of the record, by value.
-fn block_of(k: u8, levels: u8, n: u8, label: &[u8], bytes: &[u8], b: usize, i: usize) -> [u8; 512]
+fn block_of(k: u8, levels: u8, n: u8, label: &[u8], bytes: &[u8], b: usize, i: usize) -> [u8; BLOCK]
     requires { ⌜ length (now label) ≡ 8 ⌝ }
     requires { ⌜ b ≤ 8 * length (now bytes) ⌝ }
-    requires { ⌜ i < 65536 ⌝ }
-    ensures { λ r. ⌜ r ≡ blockOf k levels n (now (label .entry)) (take b (bits (now (bytes .entry)))) i ⌝ }
+    requires { ⌜ i < numberedBlocks ⌝ }
+    ensures { λ r. ⌜ r ≡ blockOf payloadStart [] k levels n (now (label .entry)) (take b (bits (now (bytes .entry)))) i ⌝ }
 {
     let part = payload(bytes, b, i);
     block::made(k, levels, n, label, i, count_in(b, i), &part)
@@ -97,11 +93,11 @@ fn put_block(
     b: usize,
     i: usize,
 )
-    requires { ⌜ length (now place) ≡ 512 ⌝ }
+    requires { ⌜ length (now place) ≡ blockBytes ⌝ }
     requires { ⌜ length (now label) ≡ 8 ⌝ }
     requires { ⌜ b ≤ 8 * length (now bytes) ⌝ }
-    requires { ⌜ i < 65536 ⌝ }
-    ensures { λ _. ⌜ now (place .exit) ≡ blockOf k levels n (now (label .entry)) (take b (bits (now (bytes .entry)))) i ⌝ }
+    requires { ⌜ i < numberedBlocks ⌝ }
+    ensures { λ _. ⌜ now (place .exit) ≡ blockOf payloadStart [] k levels n (now (label .entry)) (take b (bits (now (bytes .entry)))) i ⌝ }
 {
     let block = block_of(k, levels, n, label, bytes, b, i);
     block::copy_in(place, &block);
@@ -118,11 +114,11 @@ pub fn write_blocks(
     b: usize,
     blocks: usize,
 )
-    requires { ⌜ 512 * blocks ≤ length (now room) ⌝ }
+    requires { ⌜ blockBytes * blocks ≤ length (now room) ⌝ }
     requires { ⌜ length (now label) ≡ 8 ⌝ }
     requires { ⌜ b ≤ 8 * length (now bytes) ⌝ }
-    requires { ⌜ blocks ≤ 65536 ⌝ }
-    ensures { λ _. ⌜ now (room .exit) ≡ joined blocks (blockOf k levels n (now (label .entry)) (take b (bits (now (bytes .entry))))) ++ drop (512 * blocks) (now (room .entry)) ⌝ }
+    requires { ⌜ blocks ≤ numberedBlocks ⌝ }
+    ensures { λ _. ⌜ now (room .exit) ≡ joined blocks (blockOf payloadStart [] k levels n (now (label .entry)) (take b (bits (now (bytes .entry))))) ++ drop (blockBytes * blocks) (now (room .entry)) ⌝ }
 {
     let mut number = 0;
     while number < blocks {
@@ -135,7 +131,7 @@ pub fn write_blocks(
 
 // The blocks of a record of b bits.
 pub fn blocks_for(b: usize) -> usize
-    requires { ⌜ b ≤ payloadBits payloadStart * 65536 ⌝ }
+    requires { ⌜ b ≤ payloadBits payloadStart * numberedBlocks ⌝ }
     ensures { λ r. ⌜ r ≡ blocksFor b ⌝ }
 {
     let parts = (b + (PAYLOAD_BITS - 1)) / PAYLOAD_BITS;

@@ -1,7 +1,7 @@
 -- `checks_right` is the definition's test: A, then B. Assumes nothing.
 use mathlib.Core.Path.{sym, _∙_}
 use borrow.Author.Tests.{eq-eqb, ne-eqb}
-use Rattle.paper.specs.Block.{pairAt, checksRight}
+use Rattle.paper.specs.Block.{checksStart, pairAt, checksRight}
 use borrow.Author.Needs.{needs}
 use Rattle.block.proofs.checks_right.Statement.{statement}
 use Rattle.block.proofs.checks_right.Tie as tie
@@ -26,7 +26,7 @@ cast-if1 c = search needs
 
 returns : tie.Need-returns
 unfolding checksRight
-returns c = rw (ne-eqb (pairAt (c .before .before .before .before .before .args .block .now) 508) _ (λ e. c .if1 .taken (c .before .before .pair-at .ensures ∙ e ∙ sym (c .before .check-a .ensures))))
+returns c = rw (ne-eqb (pairAt (c .before .before .before .before .before .args .block .now) checksStart) _ (λ e. c .if1 .taken (c .before .before .pair-at .ensures ∙ e ∙ sym (c .before .check-a .ensures))))
 
 add-pair-at : tie.Need-add-pair-at
 add-pair-at c = search needs
@@ -42,7 +42,7 @@ cast-result c = search needs
 
 returns-2 : tie.Need-returns-2
 unfolding checksRight
-returns-2 c = rw (eq-eqb (pairAt (c .before .before .before .before .before .before .before .args .block .now) 508) _ (sym (c .before .before .before .before .pair-at .ensures) ∙ c .before .before .if1 .left ∙ c .before .before .before .check-a .ensures), c .before .pair-at2 .ensures, c .check-b .ensures)
+returns-2 c = rw (eq-eqb (pairAt (c .before .before .before .before .before .before .before .args .block .now) checksStart) _ (sym (c .before .before .before .before .pair-at .ensures) ∙ c .before .before .if1 .left ∙ c .before .before .before .check-a .ensures), c .before .pair-at2 .ensures, c .check-b .ensures)
 
 pub checks-right-spec : {M : Type 1} → statement M
 checks-right-spec =

@@ -15,7 +15,7 @@ shared-slice-read-if1 : tie.Need-shared-slice-read-if1
 shared-slice-read-if1 c = search needs
 
 returns : tie.Need-returns
-returns c = refused _ (λ f. c .if1 .taken (f .its-edition))
+returns c = refused payloadStart _ (λ f. c .if1 .taken (f .its-edition))
 
 shared-slice-read-wide : tie.Need-shared-slice-read-wide
 shared-slice-read-wide c = search needs
@@ -27,7 +27,7 @@ size-in-requires : tie.Need-size-in-requires
 size-in-requires c κs = search needs
 
 returns-2 : tie.Need-returns-2
-returns-2 c = refused _ (λ f. denied _ _ (c .before .size-in .ensures ∙ ap sizeIn (c .before .before .wide .ensures .0)) (c .if2 .taken) (f .its-size))
+returns-2 c = refused payloadStart _ (λ f. denied _ _ (c .before .size-in .ensures ∙ ap sizeIn (c .before .before .wide .ensures .0)) (c .if2 .taken) (f .its-size))
 
 shared-slice-read-wide-2 : tie.Need-shared-slice-read-wide-2
 shared-slice-read-wide-2 c = search needs
@@ -39,7 +39,7 @@ levels-in-requires : tie.Need-levels-in-requires
 levels-in-requires c κs = search needs
 
 returns-3 : tie.Need-returns-3
-returns-3 c = refused _ (λ f. denied _ _ (c .before .levels-in .ensures ∙ ap₂ levelsIn (c .before .before .before .before .before .before .wide .ensures .0) (c .before .before .wide2 .ensures .0)) (c .if3 .taken) (f .its-levels))
+returns-3 c = refused payloadStart _ (λ f. denied _ _ (c .before .levels-in .ensures ∙ ap₂ levelsIn (c .before .before .before .before .before .before .wide .ensures .0) (c .before .before .wide2 .ensures .0)) (c .if3 .taken) (f .its-levels))
 
 shared-slice-read-wide-3 : tie.Need-shared-slice-read-wide-3
 shared-slice-read-wide-3 c = search needs
@@ -51,7 +51,7 @@ planes-in-requires : tie.Need-planes-in-requires
 planes-in-requires c κs = search needs
 
 returns-4 : tie.Need-returns-4
-returns-4 c = refused _ (λ f. denied _ _ (c .before .planes-in .ensures ∙ ap planesIn (c .before .before .wide3 .ensures .0)) (c .if4 .taken) (f .its-planes))
+returns-4 c = refused payloadStart _ (λ f. denied _ _ (c .before .planes-in .ensures ∙ ap planesIn (c .before .before .wide3 .ensures .0)) (c .if4 .taken) (f .its-planes))
 
 sub-is-label : tie.Need-sub-is-label
 sub-is-label c = search needs
@@ -66,13 +66,13 @@ is-label-requires : tie.Need-is-label-requires
 is-label-requires c κs = search needs
 
 returns-5 : tie.Need-returns-5
-returns-5 c = refused _ (λ f. denied _ _ (c .before .is-label .ensures) (c .if5 .taken) (f .its-label))
+returns-5 c = refused payloadStart _ (λ f. denied _ _ (c .before .is-label .ensures) (c .if5 .taken) (f .its-label))
 
 pair-at-requires : tie.Need-pair-at-requires
 pair-at-requires c κs = search needs
 
 returns-6 : tie.Need-returns-6
-returns-6 c = refused _ (λ f. omega arith)
+returns-6 c = refused payloadStart _ (λ f. omega arith)
 
 sub-unused-zero : tie.Need-sub-unused-zero
 sub-unused-zero c = search needs
@@ -98,7 +98,7 @@ returns-7 c =
     c .unused-zero .ensures
     ∙ ap (λ (n : ℕ). allZero (drop n (bits (payloadOf payloadStart block)))) (c .before .before .before .pair-at .ensures)
     ∙ sym
-    (unused-decide block
+    (unused-decide payloadStart block
     (first .if1 .left)
     (granted _ _ (size .before .size-in .ensures ∙ ap sizeIn (size .before .before .wide .ensures .0)) (size .if2 .left))
     (granted _ _ (levels .before .levels-in .ensures ∙ ap₂ levelsIn (size .before .before .wide .ensures .0) (levels .before .before .wide2 .ensures .0)) (levels .if3 .left))

@@ -1,6 +1,7 @@
 -- `made` is the definition's block: header, payload, checks. Assumes nothing.
 use native.Mathlib.Omega.{arith}
-use Rattle.paper.specs.Block.{edition, header}
+use Rattle.paper.specs.Block.{edition, header, payloadStart}
+use Rattle.block.proofs.Blocks.{header-length}
 use Rattle.block.proofs.Copies.{made-in}
 use borrow.Author.Needs.{needs}
 use Rattle.block.proofs.made.Statement.{statement}
@@ -18,12 +19,13 @@ with-checks-requires c κs = search needs
 returns : tie.Need-returns
 returns c =
     let a = c .before .before .before .before .before .args in
-    made-in (header edition (a .k) (a .levels) (a .n) (a .label .now) (a .number) (a .count)) (a .payload .now) (c .before .before .headed .result) _ _
+    made-in payloadStart (header edition (a .k) (a .levels) (a .n) (a .label .now) (a .number) (a .count)) (a .payload .now) (c .before .before .headed .result) _ _
+    (header-length (a .k) (a .levels) (a .n) (a .label .now) (a .number) (a .count) (omega arith))
+    (omega arith)
+    (omega arith)
     (c .before .before .headed .ensures)
     (c .before .with-payload .ensures)
     (c .with-checks .ensures)
-    (omega arith)
-    (omega arith)
 
 pub made-spec : {M : Type 1} → statement M
 made-spec = tie.close (tie.spec headed-requires with-payload-requires with-checks-requires returns)

@@ -1,7 +1,7 @@
 -- `with_payload` changes the payload's part alone. Assumes nothing.
 use mathlib.Core.Path.{_∙_}
 use native.Mathlib.Omega.{arith}
-use lib.ListN.{take, drop}
+use Rattle.paper.specs.Block.{payloadStart, payloadOf}
 use Rattle.list_laws.specs.Over.{over-whole}
 use Rattle.block.proofs.Copies.{payload-in}
 use borrow.Author.Needs.{needs}
@@ -21,10 +21,11 @@ copy-in-requires : tie.Need-copy-in-requires
 copy-in-requires c κs = search needs
 
 returns : tie.Need-returns
+unfolding payloadOf
 returns c =
     let a = c .before .before .before .before .args in
-    payload-in (a .from) (a .payload .now) (c .before .copy-in .last .0)
-    (c .before .copy-in .ensures ∙ over-whole (a .payload .now) (take 492 (drop 16 (a .from))) (omega arith))
+    payload-in payloadStart (a .from) (a .payload .now) (c .before .copy-in .last .0) (omega arith)
+    (c .before .copy-in .ensures ∙ over-whole (a .payload .now) (payloadOf payloadStart (a .from)) (omega arith))
 
 pub with-payload-spec : {M : Type 1} → statement M
 with-payload-spec =

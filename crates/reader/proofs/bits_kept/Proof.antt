@@ -1,6 +1,7 @@
 -- `bits_kept`: full blocks and the last; two bytes are below 65,536, so the sum fits.
 use Prim.Native.Nat.{_-_}
 use Rattle.reader.proofs.Turn.{bits-last}
+use Rattle.paper.specs.Block.{payloadStart}
 use Rattle.record_laws.specs.Turn.{pair-small}
 use native.Mathlib.Omega.{arith}
 use Rattle.reader.proofs.bits_kept.Statement.{statement}
@@ -21,7 +22,7 @@ add-result c =
 
 returns : tie.Need-returns
 returns c =
-    bits-last (c .before .before .args .blocks .now) (c .before .before .args .kept) (c .count-at .result) (c .before .before .pre .0) (c .count-at .ensures)
+    bits-last payloadStart (c .before .before .args .blocks .now) (c .before .before .args .kept) (c .count-at .result) (c .before .before .pre .0) (c .count-at .ensures)
 
 pub bits-kept-spec : {M : Type 1} → statement M
 bits-kept-spec = tie.close (tie.spec sub-last mul-result count-at-requires add-result returns)

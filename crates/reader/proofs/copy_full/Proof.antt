@@ -2,7 +2,7 @@
 use Rattle.reader.proofs.Payload.{payload-more}
 use Rattle.list_laws.specs.Joined.{none-joined}
 use Rattle.paper.specs.Record.{blockAt}
-use Rattle.paper.specs.Block.{payloadOf, payloadStart}
+use Rattle.paper.specs.Block.{payloadBytes, payloadOf, payloadStart}
 use Rattle.paper.specs.Lists.{joined}
 use lib.ListN.{length, drop}
 use native.Mathlib.Omega.{arith}
@@ -13,7 +13,7 @@ use Rattle.reader.proofs.copy_full.Statement.{statement}
 use Rattle.reader.proofs.copy_full.Tie as tie
 
 abbrev Inv-loop : tie.InvT-loop
-Inv-loop room₀ blocks full i₀ room i = (i ≤ full) × (length room ≡ length room₀) × (room ≡ joined i (λ j. payloadOf payloadStart (blockAt blocks j)) ++ drop (492 * i) room₀)
+Inv-loop room₀ blocks full i₀ room i = (i ≤ full) × (length room ≡ length room₀) × (room ≡ joined i (λ j. payloadOf payloadStart (blockAt blocks j)) ++ drop (payloadBytes payloadStart * i) room₀)
 
 abbrev μ-loop : tie.MeasureT-loop
 μ-loop room₀ blocks full i₀ room i = full - i
@@ -21,7 +21,7 @@ abbrev μ-loop : tie.MeasureT-loop
 loop-holds : tie.Need-loop-holds Inv-loop μ-loop
 loop-holds c =
     let args = c .before .before .args in
-    (omega arith, refl, none-joined 492 (λ j. payloadOf payloadStart (blockAt (args .blocks .now) j)) (args .room .now))
+    (omega arith, refl, none-joined (payloadBytes payloadStart) (λ j. payloadOf payloadStart (blockAt (args .blocks .now) j)) (args .room .now))
 
 put-payload-requires : tie.Need-put-payload-requires Inv-loop μ-loop
 put-payload-requires c κs =
@@ -39,7 +39,7 @@ loop-again c =
     let args = c .before .before .before .before .before .before .before .before .args in
     let at = c .before .before .before .before .before .loop in
     let put = c .before .before .put-payload in
-    (omega arith, put .kept .0 ∙ at .inv .1, put .ensures ∙ payload-more (args .blocks .now) (args .room .now) (at .i) (at .room) (omega arith) (at .inv .2))
+    (omega arith, put .kept .0 ∙ at .inv .1, put .ensures ∙ payload-more payloadStart (args .blocks .now) (args .room .now) (at .i) (at .room) (omega arith) (at .inv .2))
 
 same-length : tie.Need-same-length Inv-loop μ-loop
 same-length c =
@@ -50,7 +50,7 @@ returns c =
     let args = c .before .before .before .before .args in
     let at = c .before .loop in
     let e : at .i ≡ args .full = omega arith in
-    at .inv .2 ∙ ap (λ (i : ℕ). joined i (λ j. payloadOf payloadStart (blockAt (args .blocks .now) j)) ++ drop (492 * i) (args .room .now)) e
+    at .inv .2 ∙ ap (λ (i : ℕ). joined i (λ j. payloadOf payloadStart (blockAt (args .blocks .now) j)) ++ drop (payloadBytes payloadStart * i) (args .room .now)) e
 
 pub copy-full-spec : {M : Type 1} → statement M
 copy-full-spec =

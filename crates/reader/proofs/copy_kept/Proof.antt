@@ -2,6 +2,7 @@
 use Rattle.reader.proofs.Payload.{payload-last}
 use Rattle.reader.proofs.Turn.{bits-low}
 use Rattle.paper.specs.Record.{bitsKept, payloadKept}
+use Rattle.paper.specs.Block.{payloadStart}
 use Rattle.paper.specs.Lists.{over}
 use native.Mathlib.Omega.{arith}
 use mathlib.Core.Path.{_≡_, sym, ap, _∙_}
@@ -17,7 +18,7 @@ mul-used c = omega arith
 
 sub-used : tie.Need-sub-used
 sub-used c =
-    omega (arith, bits-low (c .before .before .args .blocks .now) (c .before .before .args .kept))
+    omega (arith, bits-low payloadStart (c .before .before .args .blocks .now) (c .before .before .args .kept))
 
 add-used : tie.Need-add-used
 add-used c = omega arith
@@ -39,8 +40,8 @@ returns c =
     let last = args .kept - 1 in
     let e : args .kept ≡ suc last = omega arith in
     c .before .before .put-payload .ensures
-    ∙ payload-last s (args .room .now) last (args .bits) (omega arith) (S .pre .1 .1 .1 .0 ∙ ap (bitsKept s) e) (omega arith) (c .before .before .before .before .before .before .copy-full .last .0) (c .before .before .before .before .before .before .copy-full .ensures)
-    ∙ ap (λ (kept : ℕ). over (payloadKept s kept) (args .room .now)) (sym e)
+    ∙ payload-last payloadStart s (args .room .now) last (args .bits) (omega arith) (S .pre .1 .1 .1 .0 ∙ ap (bitsKept payloadStart s) e) (omega arith) (c .before .before .before .before .before .before .copy-full .last .0) (c .before .before .before .before .before .before .copy-full .ensures)
+    ∙ ap (λ (kept : ℕ). over (payloadKept payloadStart s kept) (args .room .now)) (sym e)
 
 pub copy-kept-spec : {M : Type 1} → statement M
 copy-kept-spec =

@@ -1,6 +1,7 @@
 -- `longest_run`. The invariant: the run from block i on is the whole run.
 use Rattle.reader.proofs.Turn.{run-start, run-fails, run-short, run-more, run-ends}
 use Rattle.paper.specs.Record.{runOf, runFrom}
+use Rattle.paper.specs.Block.{blockBytes, payloadStart}
 use lib.ListN.{length}
 use native.Mathlib.Omega.{arith}
 use mathlib.Core.Path.{_≡_, _∙_}
@@ -9,7 +10,7 @@ use Rattle.reader.proofs.longest_run.Statement.{statement}
 use Rattle.reader.proofs.longest_run.Tie as tie
 
 abbrev Inv-loop : tie.InvT-loop
-Inv-loop blocks label whole i₀ i = (i ≤ whole) × (runOf blocks label ≡ runFrom blocks label (whole - i) i)
+Inv-loop blocks label whole i₀ i = (i ≤ whole) × (runOf payloadStart blocks label ≡ runFrom payloadStart blocks label (whole - i) i)
 
 abbrev μ-loop : tie.MeasureT-loop
 μ-loop blocks label whole i₀ i = whole - i
@@ -17,7 +18,7 @@ abbrev μ-loop : tie.MeasureT-loop
 loop-holds : tie.Need-loop-holds Inv-loop μ-loop
 loop-holds c =
     let args = c .before .before .args in
-    (omega arith, run-start (args .blocks .now) (args .label .now))
+    (omega arith, run-start payloadStart (args .blocks .now) (args .label .now))
 
 refusal-at-requires : tie.Need-refusal-at-requires Inv-loop μ-loop
 refusal-at-requires c κs = omega arith
@@ -26,7 +27,7 @@ returns : tie.Need-returns Inv-loop μ-loop
 returns c =
     let args = c .before .before .before .before .before .before .args in
     let at = c .before .before .before .loop in
-    at .inv .1 ∙ run-fails (args .blocks .now) (args .label .now) (length (args .blocks .now) / 512) (at .i) (omega arith) (c .before .refusal-at .result) (c .before .refusal-at .ensures) (omega arith)
+    at .inv .1 ∙ run-fails payloadStart (args .blocks .now) (args .label .now) (length (args .blocks .now) / blockBytes) (at .i) (omega arith) (c .before .refusal-at .result) (c .before .refusal-at .ensures) (omega arith)
 
 count-at-requires : tie.Need-count-at-requires Inv-loop μ-loop
 count-at-requires c κs = omega arith
@@ -38,7 +39,7 @@ returns-2 : tie.Need-returns-2 Inv-loop μ-loop
 returns-2 c =
     let args = c .before .before .before .before .before .before .before .before .args in
     let at = c .before .before .before .before .before .loop in
-    at .inv .1 ∙ run-short (args .blocks .now) (args .label .now) (length (args .blocks .now) / 512) (at .i) (omega arith) (c .before .before .before .refusal-at .result) (c .before .count-at .result) (c .before .before .before .refusal-at .ensures) (omega arith) (c .before .count-at .ensures) (c .if2 .taken)
+    at .inv .1 ∙ run-short payloadStart (args .blocks .now) (args .label .now) (length (args .blocks .now) / blockBytes) (at .i) (omega arith) (c .before .before .before .refusal-at .result) (c .before .count-at .result) (c .before .before .before .refusal-at .ensures) (omega arith) (c .before .count-at .ensures) (c .if2 .taken)
 
 add-i : tie.Need-add-i Inv-loop μ-loop
 add-i c = omega arith
@@ -51,13 +52,13 @@ loop-again : tie.Need-loop-again Inv-loop μ-loop
 loop-again c =
     let args = c .before .before .before .before .before .before .before .before .args in
     let at = c .before .before .before .before .before .loop in
-    (omega arith, at .inv .1 ∙ run-more (args .blocks .now) (args .label .now) (length (args .blocks .now) / 512) (at .i) (omega arith) (c .before .before .before .refusal-at .result) (c .before .count-at .result) (c .before .before .before .refusal-at .ensures) (omega arith) (c .before .count-at .ensures) (c .if2 .left))
+    (omega arith, at .inv .1 ∙ run-more payloadStart (args .blocks .now) (args .label .now) (length (args .blocks .now) / blockBytes) (at .i) (omega arith) (c .before .before .before .refusal-at .result) (c .before .count-at .result) (c .before .before .before .refusal-at .ensures) (omega arith) (c .before .count-at .ensures) (c .if2 .left))
 
 returns-3 : tie.Need-returns-3 Inv-loop μ-loop
 returns-3 c =
     let args = c .before .before .before .before .args in
     let at = c .before .loop in
-    at .inv .1 ∙ run-ends (args .blocks .now) (args .label .now) (length (args .blocks .now) / 512) (at .i) (omega arith)
+    at .inv .1 ∙ run-ends payloadStart (args .blocks .now) (args .label .now) (length (args .blocks .now) / blockBytes) (at .i) (omega arith)
 
 pub longest-run-spec : {M : Type 1} → statement M
 longest-run-spec =

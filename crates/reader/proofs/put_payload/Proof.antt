@@ -1,5 +1,6 @@
 -- `put_payload` covers its place with the first n payload bytes.
 use native.Mathlib.Omega.{arith}
+use Rattle.paper.specs.Block.{payloadStart, payloadOf}
 use Rattle.reader.proofs.Payload.{payload-put}
 use Rattle.reader.proofs.put_payload.Statement.{statement}
 use Rattle.reader.proofs.put_payload.Tie as tie
@@ -59,9 +60,10 @@ same-length : tie.Need-same-length
 same-length c = omega arith
 
 returns : tie.Need-returns
+unfolding payloadOf
 returns c =
     let S = c .before .before .before .before .before .before .before .before .before in
-    payload-put (S .args .blocks .now) (S .args .room .now) (c .before .before .copy-in .last .0) (S .args .i) (S .args .n) (S .pre .0) (S .pre .1 .0) (S .pre .1 .1) (c .before .before .copy-in .ensures)
+    payload-put payloadStart (S .args .blocks .now) (S .args .room .now) (c .before .before .copy-in .last .0) (S .args .i) (S .args .n) (S .pre .0) (S .pre .1 .0) (S .pre .1 .1) (c .before .before .copy-in .ensures)
 
 pub put-payload-spec : {M : Type 1} → statement M
 put-payload-spec =

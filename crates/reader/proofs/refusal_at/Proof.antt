@@ -1,6 +1,7 @@
 -- `refusal_at` judges the part that is block i by the first bytes of the part that is block 0.
 use mathlib.Core.Path.{ap, _∙_}
 use native.Mathlib.Omega.{arith}
+use Rattle.paper.specs.Block.{payloadStart}
 use Rattle.paper.specs.Record.{blockAt, said, turnRefusal}
 use Rattle.reader.proofs.Turn.{part-is}
 use Rattle.reader.proofs.refusal_at.Statement.{statement}
@@ -45,7 +46,7 @@ turn-refusal-requires c κs = omega arith
 returns : tie.Need-returns
 returns c =
     let args = c .before .before .before .before .before .before .args in
-    c .turn-refusal .ensures ∙ ap (turnRefusal (said (blockAt (args .blocks .now) 0)) (args .label .now) (args .i)) (part-is (args .blocks .now) (args .i))
+    c .turn-refusal .ensures ∙ ap (turnRefusal payloadStart (said (blockAt (args .blocks .now) 0)) (args .label .now) (args .i)) (part-is (args .blocks .now) (args .i))
 
 pub refusal-at-spec : {M : Type 1} → statement M
 refusal-at-spec =

@@ -1,5 +1,6 @@
 -- `fits`: three conditions, one after the other; b is small enough to count its blocks once it is within the bound.
 use Rattle.paper.specs.Sizes.{mostBits}
+use Rattle.paper.specs.Block.{blockBytes}
 use Rattle.record_laws.specs.BothJobs.{most-bits}
 use Rattle.reader.proofs.Turn.{first-fails, second-fails, third-decides}
 use borrow.Author.Tests.{le-leb, lt-leb, not-true, not-false}
@@ -33,7 +34,7 @@ mul-result c = omega arith
 
 returns-3 : tie.Need-returns-3
 returns-3 c =
-    ap (λ (j : ℕ). leb (512 * j) (c .before .before .before .before .before .args .room)) (c .blocks-for .ensures) ∙ third-decides _ (sym (c .before .before .before .before .lends .ensures) ∙ not-false _ (c .before .before .before .if1 .left)) (le-leb (c .before .before .before .before .before .args .b) (mostBits (c .before .before .before .before .before .args .k) (c .before .before .before .before .before .args .n)) (omega arith))
+    ap (λ (j : ℕ). leb (blockBytes * j) (c .before .before .before .before .before .args .room)) (c .blocks-for .ensures) ∙ third-decides _ (sym (c .before .before .before .before .lends .ensures) ∙ not-false _ (c .before .before .before .if1 .left)) (le-leb (c .before .before .before .before .before .args .b) (mostBits (c .before .before .before .before .before .args .k) (c .before .before .before .before .before .args .n)) (omega arith))
 
 pub fits-spec : {M : Type 1} → statement M
 fits-spec =

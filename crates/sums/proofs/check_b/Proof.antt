@@ -3,14 +3,14 @@ use Prim.Native.Nat.{ℕ, _≤_, _*_, _-_, _+_, _%_}
 use mathlib.Core.Path.{_≡_, ap}
 use native.Mathlib.Omega.{arith}
 use lib.ListN.{length, drop}
-use Rattle.paper.specs.Block.{weighedSum}
+use Rattle.paper.specs.Block.{weighedSum, checksStart}
 use Rattle.sums.proofs.Laws.{weighed-more, weighed-end, weighed-small}
 use borrow.Author.Needs.{needs}
 use Rattle.sums.proofs.check_b.Statement.{statement}
 use Rattle.sums.proofs.check_b.Tie as tie
 
 abbrev Inv-loop : tie.InvT-loop
-Inv-loop s sum₀ i₀ sum i = (i ≤ length s) × (sum ≤ 129540 * i) × (sum + weighedSum i (drop i s) ≡ weighedSum 0 s)
+Inv-loop s sum₀ i₀ sum i = (i ≤ length s) × (sum ≤ checksStart * 255 * i) × (sum + weighedSum i (drop i s) ≡ weighedSum 0 s)
 
 abbrev μ-loop : tie.MeasureT-loop
 μ-loop s sum₀ i₀ sum i = length s - i
@@ -33,7 +33,7 @@ shared-slice-read-wide c = search needs
 wide-requires : tie.Need-wide-requires Inv-loop μ-loop
 wide-requires c κs = search needs
 
-small : (c : tie.After-wide Inv-loop μ-loop) → (c .before .before .before .loop .i + 1) * c .wide .result ≤ 129540
+small : (c : tie.After-wide Inv-loop μ-loop) → (c .before .before .before .loop .i + 1) * c .wide .result ≤ checksStart * 255
 small c = weighed-small _ _ (omega arith) (c .wide .ensures .1)
 
 mul-sum : tie.Need-mul-sum Inv-loop μ-loop

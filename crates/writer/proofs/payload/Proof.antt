@@ -1,6 +1,7 @@
--- `payload` is what `fill` makes of 492 zero bytes.
+-- `payload` is what `fill` makes of as many zero bytes.
 use native.Mathlib.Omega.{arith}
 use Rattle.writer.proofs.Bytes.{payload-is}
+use Rattle.paper.specs.Block.{payloadStart}
 use Rattle.paper.specs.Bits.{bits}
 use lib.ListN.{take}
 use mathlib.Core.Path.{_∙_}
@@ -18,7 +19,7 @@ fill-requires c κs = omega arith
 
 returns : tie.Need-returns
 returns c =
-    c .before .fill .ensures ∙ payload-is (take (c .before .before .before .before .args .b) (bits (c .before .before .before .before .args .bytes .now))) (c .before .before .before .before .args .i)
+    c .before .fill .ensures ∙ payload-is payloadStart (take (c .before .before .before .before .args .b) (bits (c .before .before .before .before .args .bytes .now))) (c .before .before .before .before .args .i)
 
 pub payload-spec : {M : Type 1} → statement M
 payload-spec = tie.close (tie.spec slice-aggregate-fill mul-fill fill-requires returns)
