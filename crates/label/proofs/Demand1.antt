@@ -10,7 +10,7 @@ use lib.IntN.{ℤ}
 use lib.ListN.{length, take, drop, length-take, length-drop}
 use borrow.Author.Tests.{leb-true, eq-eqb}
 use Rattle.paper.specs.Sizes.{sizeIn, levelsIn, planesIn, numbersIn, mostBits, unless, judged}
-use Rattle.paper.specs.Block.{isLabel, payloadBytes, payloadStart, checksRight, fieldsRight, blockRefusal}
+use Rattle.paper.specs.Block.{blockBytes, isLabel, payloadBytes, payloadStart, checksRight, fieldsRight, blockRefusal}
 use Rattle.paper.specs.Record.{blocksFor, wholeBlocks, blockAt, said, inTurn, turnRefusal}
 use Rattle.paper.specs.Jobs.{sizesRefusal, isSquare, Forward, forwardRefusal, forwardJob, Coding, codingRefusal, codingJob, Decoding, decodingRefusal, decodingJob, Inverse, inverseRefusal, inverseJob, Writing, writingRefusal, writingJob, Read, readingRefusal, readingJob, checkJob}
 use Rattle.sizes.proofs.Ranges.{both-first}
@@ -49,13 +49,13 @@ writing-refuses k L n label bytes b room = judged-refuses _ _ _ _ _ (λ r l. ref
 
 -- ---- record reading
 -- block 0 of 512 bytes or more lent is a whole block
-whole-first : (s : List ℕ) → 512 ≤ length s → eqb (length (blockAt s 0)) 512 ≡ true
-whole-first s h = eq-eqb (length (blockAt s 0)) 512 (length-take 512 (drop 0 s) ∙ omega arith)
+whole-first : (s : List ℕ) → blockBytes ≤ length s → eqb (length (blockAt s 0)) blockBytes ≡ true
+whole-first s h = eq-eqb (length (blockAt s 0)) blockBytes (length-take blockBytes (drop 0 s) ∙ omega arith)
 
 module _ (s label room : List ℕ) where
   reading-first : readingRefusal s label room ≡ first (readingRows s label room)
   unfolding readingRefusal turnRefusal blockRefusal
-  reading-first = go (leb 512 (length s)) (leb (payloadBytes payloadStart * wholeBlocks s) (length room)) refl
+  reading-first = go (leb blockBytes (length s)) (leb (payloadBytes payloadStart * wholeBlocks s) (length room)) refl
     where
       B : List ℕ
       B = blockAt s 0
@@ -66,10 +66,10 @@ module _ (s label room : List ℕ) where
       turn true false f t e = refl
       turn false c f t e = absurd (let z : _≡_ {A = ℕ} 0 1 = cc in omega arith)
 
-      go : (a b : Bool) → leb 512 (length s) ≡ a
-          → unless 6 (a && b) (unless 7 (isLabel label) (unless (unless 6 (eqb (length B) 512) (unless 8 (checksRight B) (unless 9 (fieldsRight payloadStart B) 0))) (eqb (unless 6 (eqb (length B) 512) (unless 8 (checksRight B) (unless 9 (fieldsRight payloadStart B) 0))) 0) (unless 10 (inTurn (said B) label 0 B) 0)))
+      go : (a b : Bool) → leb blockBytes (length s) ≡ a
+          → unless 6 (a && b) (unless 7 (isLabel label) (unless (unless 6 (eqb (length B) blockBytes) (unless 8 (checksRight B) (unless 9 (fieldsRight payloadStart B) 0))) (eqb (unless 6 (eqb (length B) blockBytes) (unless 8 (checksRight B) (unless 9 (fieldsRight payloadStart B) 0))) 0) (unless 10 (inTurn (said B) label 0 B) 0)))
           ≡ unless 6 (a && b) (unless 7 (isLabel label) (unless 8 (checksRight B) (unless 9 (fieldsRight payloadStart B) (unless 10 (inTurn (said B) label 0 B) 0))))
-      go true true e = ap (unless 7 (isLabel label)) (turn (eqb (length B) 512) (checksRight B) (fieldsRight payloadStart B) (inTurn (said B) label 0 B) (whole-first s (leb-true 512 (length s) e)))
+      go true true e = ap (unless 7 (isLabel label)) (turn (eqb (length B) blockBytes) (checksRight B) (fieldsRight payloadStart B) (inTurn (said B) label 0 B) (whole-first s (leb-true blockBytes (length s) e)))
       go true false e = refl
       go false b e = refl
 

@@ -13,6 +13,7 @@ use Rattle.paper.specs.Sizes.{sizeIn, levelsIn, planesIn}
 use Rattle.paper.specs.Square.{greysOf, pictured}
 use Rattle.paper.specs.Walk.{codeOf, decodeOf, Settled}
 use Rattle.paper.specs.Bits.{bits, laid}
+use Rattle.paper.specs.Block.{blockBytes, payloadStart, payloadBytes}
 use Rattle.paper.specs.Record.{blocksFor}
 use Rattle.paper.specs.Jobs.{Decoding, decodingRefusal, settledJob, decodingJob, Writing, writingJob, writtenOf, Read, Inverse}
 use Rattle.sizes.proofs.Ranges.{levels-less}
@@ -49,8 +50,8 @@ pub record Enough (k L : ℕ) (label picture : List ℕ) (limit : ℕ) (numbers 
   pub limit-holds : length (code k L label picture given) ≤ limit
   pub numbers-hold : length numbers ≡ 4 ^ k
   pub bytes-hold : length (code k L label picture given) ≤ 8 * length bytes
-  pub room-holds : 512 * blocksFor (length (code k L label picture given)) ≤ length room
-  pub payload-holds : 492 * blocksFor (length (code k L label picture given)) ≤ length payload
+  pub room-holds : blockBytes * blocksFor (length (code k L label picture given)) ≤ length room
+  pub payload-holds : payloadBytes payloadStart * blocksFor (length (code k L label picture given)) ≤ length payload
   pub lent-holds : length lent ≡ 4 ^ k
   pub shown-holds : length shown ≡ 4 ^ k
   pub greys-hold : length greys ≡ 4 ^ k
@@ -71,7 +72,7 @@ module _ (k L : ℕ) (label picture : List ℕ) (limit : ℕ) (numbers : List �
   all-written : writtenOf k L T limit bytes ≡ C
   all-written = written-all k L T (truth-given k L label picture G) limit bytes (enough .limit-holds) (enough .bytes-hold)
 
-  fits : 512 * blocksFor (length (writtenOf k L T limit bytes)) ≤ length room
+  fits : blockBytes * blocksFor (length (writtenOf k L T limit bytes)) ≤ length room
   fits = omega (arith, ap (λ (l : List Bool). blocksFor (length l)) all-written, enough .room-holds)
 
   -- the record is written, and its blocks counted
@@ -82,15 +83,15 @@ module _ (k L : ℕ) (label picture : List ℕ) (limit : ℕ) (numbers : List �
       (ap (λ (a : Writing). a .refusal) (e ∙ w), ap (λ (a : Writing). a .blocks) (e ∙ w) ∙ ap (λ (l : List Bool). blocksFor (length l)) all-written)
 
   -- The whole record, read, decoded and inverted, is the very picture, with no plane unfinished.
-  pub very-picture : let S = outOfRecord label (take (512 * W .blocks) (W .room)) payload lent shown greys in
+  pub very-picture : let S = outOfRecord label (take (blockBytes * W .blocks) (W .room)) payload lent shown greys in
       (S .read .refusal ≡ 0) × (S .decoded ≡ record { refusal = 0; unfinished = 0; read = length C; numbers = T }) × (S .rebuilt ≡ record { refusal = 0; picture = picture; room = greysOf k L T })
   very-picture =
       let B = blocksFor (length C) in
       let b : blocksFor (length (writtenOf k L T limit bytes)) ≡ B = ap (λ (l : List Bool). blocksFor (length l)) all-written in
-      let m : 512 * W .blocks / 512 ≡ B = omega (arith, whole-written .1) in
-      let out = out-is k L label picture G limit numbers (enough .numbers-hold) bytes room fits (512 * W .blocks) (omega (arith, whole-written .1)) (omega (arith, whole-written .1, b)) payload (omega (arith, m, enough .payload-holds)) lent (enough .lent-holds) shown (enough .shown-holds) greys (enough .greys-hold) in
-      let all : decodeOf k L (n k L label picture G) (take (bitsIn (writtenOf k L T limit bytes) (512 * W .blocks / 512)) C) ≡ record { numbers = T; unfinished = 0; read = length C } =
-      all-bits k L T (levels-less k L (G .levels)) (truth-given k L label picture G .square) (truth-given k L label picture G .small) (bitsIn (writtenOf k L T limit bytes) (512 * W .blocks / 512)) (omega (arith, m, ap length all-written)) in
+      let m : blockBytes * W .blocks / blockBytes ≡ B = omega (arith, whole-written .1) in
+      let out = out-is k L label picture G limit numbers (enough .numbers-hold) bytes room fits (blockBytes * W .blocks) (omega (arith, whole-written .1)) (omega (arith, whole-written .1, b)) payload (omega (arith, m, enough .payload-holds)) lent (enough .lent-holds) shown (enough .shown-holds) greys (enough .greys-hold) in
+      let all : decodeOf k L (n k L label picture G) (take (bitsIn (writtenOf k L T limit bytes) (blockBytes * W .blocks / blockBytes)) C) ≡ record { numbers = T; unfinished = 0; read = length C } =
+      all-bits k L T (levels-less k L (G .levels)) (truth-given k L label picture G .square) (truth-given k L label picture G .small) (bitsIn (writtenOf k L T limit bytes) (blockBytes * W .blocks / blockBytes)) (omega (arith, m, ap length all-written)) in
       let picture-back : pictured k (greysOf k L T) ≡ picture = lossless L k picture (omega (arith, levels-less k L (G .levels))) (G .square) (G .greys) in (
         ap (λ (s : Seen). s .read .refusal) out,
         ap (λ (s : Seen). s .decoded) out ∙ ap settledJob all,

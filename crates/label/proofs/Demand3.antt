@@ -13,6 +13,7 @@ use Rattle.paper.specs.Lists.{at}
 use Rattle.paper.specs.Places.{zOf}
 use Rattle.paper.specs.Square.{grey, greysOf, pictured}
 use Rattle.paper.specs.Walk.{negative, decodeOf, Settled}
+use Rattle.paper.specs.Block.{blockBytes, payloadStart, payloadBytes}
 use Rattle.paper.specs.Record.{blocksFor}
 use Rattle.paper.specs.Jobs.{Decoding, Inverse, Read, writtenOf}
 use Rattle.sizes.proofs.Ranges.{levels-less}
@@ -100,23 +101,23 @@ module _ (k L : ℕ) (label picture : List ℕ) (given : Given k L label picture
       (omega (arith, off .0, pictured-most k (greysOf k L ((first b) .numbers)) place h), omega (arith, off .1, given .greys place))
 
   -- ---- any record of it, cut anywhere that still opens
-  module _ (limit : ℕ) (numbers : List ℤ) (numbers-fit : length numbers ≡ 4 ^ k) (bytes room : List ℕ) (room-fits : 512 * blocksFor (length (writtenOf k L true-numbers limit bytes)) ≤ length room)
+  module _ (limit : ℕ) (numbers : List ℤ) (numbers-fit : length numbers ≡ 4 ^ k) (bytes room : List ℕ) (room-fits : blockBytes * blocksFor (length (writtenOf k L true-numbers limit bytes)) ≤ length room)
       (payload : List ℕ) (lent : List ℤ) (lent-fits : length lent ≡ 4 ^ k) (shown : List ℕ) (shown-fits : length shown ≡ 4 ^ k) (greys : List ℤ) (greys-fit : length greys ≡ 4 ^ k) where
     -- what is seen of the record's first m bytes, and the bits that are left in them
     abbrev pub seen : ℕ → Seen
     seen m = outOfRecord label (take m ((intoRecord k L label picture limit numbers bytes room) .room)) payload lent shown greys
 
     abbrev pub left : ℕ → ℕ
-    left m = bitsIn (writtenOf k L true-numbers limit bytes) (m / 512)
+    left m = bitsIn (writtenOf k L true-numbers limit bytes) (m / blockBytes)
 
     -- a cut that still opens: one whole block at least; and room for the payload of its whole blocks
     pub record Opens (m : ℕ) : Type 0 where
-      pub some : 512 ≤ m
-      pub within : m ≤ 512 * blocksFor (length (writtenOf k L true-numbers limit bytes))
-      pub payload-fits : 492 * (m / 512) ≤ length payload
+      pub some : blockBytes ≤ m
+      pub within : m ≤ blockBytes * blocksFor (length (writtenOf k L true-numbers limit bytes))
+      pub payload-fits : payloadBytes payloadStart * (m / blockBytes) ≤ length payload
 
     module _ (m : ℕ) (opens : Opens m) where
-      seen-is : seen m ≡ seenAs k L (way.n k L label picture given) (writtenOf k L true-numbers limit bytes) payload (m / 512) (first (left m))
+      seen-is : seen m ≡ seenAs k L (way.n k L label picture given) (writtenOf k L true-numbers limit bytes) payload (m / blockBytes) (first (left m))
       seen-is = out-is k L label picture given limit numbers numbers-fit bytes room room-fits m (opens .some) (opens .within) payload (opens .payload-fits) lent lent-fits shown shown-fits greys greys-fit
 
       -- It opens, and what is decoded and shown is what its bits settle.

@@ -13,7 +13,7 @@ use Rattle.paper.specs.Sizes.{sizeIn, levelsIn, numbersIn, mostPlanes}
 use Rattle.paper.specs.Square.{numbersOf, greysOf, pictured}
 use Rattle.paper.specs.Walk.{planeCount, codeOf, decodeOf, Settled}
 use Rattle.paper.specs.Bits.{laid}
-use Rattle.paper.specs.Block.{isLabel}
+use Rattle.paper.specs.Block.{blockBytes, payloadStart, payloadBytes, isLabel}
 use Rattle.paper.specs.Record.{blocksFor}
 use Rattle.paper.specs.Jobs.{isSquare, Forward, forwardRefusal, forwardJob, Coding, codingJob, writtenOf, Decoding, settledJob, decodingJob, Inverse, inverseRefusal, inverseJob, Writing, writingJob, Read, readingJob}
 use Rattle.sizes.proofs.Ranges.{levels-few, levels-less, planes-few}
@@ -65,7 +65,7 @@ module _ (k L : ℕ) (label picture : List ℕ) (given : Given k L label picture
   unfolding forwardJob forwardRefusal
   forwarded numbers e = done-is _ _ _ (sizes-passed k L _ (given .size) (given .levels) ∙ rw (eq-eqb (length picture) (4 ^ k) (given .square), eq-eqb (length numbers) (4 ^ k) e))
 
-  module _ (limit : ℕ) (numbers : List ℤ) (numbers-fit : length numbers ≡ 4 ^ k) (bytes room : List ℕ) (room-fits : 512 * blocksFor (length (writtenOf k L truth limit bytes)) ≤ length room) where
+  module _ (limit : ℕ) (numbers : List ℤ) (numbers-fit : length numbers ≡ 4 ^ k) (bytes room : List ℕ) (room-fits : blockBytes * blocksFor (length (writtenOf k L truth limit bytes)) ≤ length room) where
     -- the bits in the record
     abbrev pub recorded : List Bool
     recorded = writtenOf k L truth limit bytes
@@ -77,10 +77,10 @@ module _ (k L : ℕ) (label picture : List ℕ) (given : Given k L label picture
         ∙ ap (λ (c : Coding). writingJob k L (c .n) label (c .bytes) (c .written) room) (coded k L truth truth-given limit bytes)
 
     -- ---- out of its first m bytes
-    module _ (m : ℕ) (opens : 512 ≤ m) (within : m ≤ 512 * blocksFor (length recorded)) (payload : List ℕ) (payload-fits : 492 * (m / 512) ≤ length payload) (lent : List ℤ) (lent-fits : length lent ≡ 4 ^ k) (shown : List ℕ) (shown-fits : length shown ≡ 4 ^ k) (greys : List ℤ) (greys-fit : length greys ≡ 4 ^ k) where
+    module _ (m : ℕ) (opens : blockBytes ≤ m) (within : m ≤ blockBytes * blocksFor (length recorded)) (payload : List ℕ) (payload-fits : payloadBytes payloadStart * (m / blockBytes) ≤ length payload) (lent : List ℤ) (lent-fits : length lent ≡ 4 ^ k) (shown : List ℕ) (shown-fits : length shown ≡ 4 ^ k) (greys : List ℤ) (greys-fit : length greys ≡ 4 ^ k) where
       -- the bits that are left, and what they settle
       abbrev pub left : ℕ
-      left = bitsIn recorded (m / 512)
+      left = bitsIn recorded (m / blockBytes)
 
       abbrev pub settled : Settled
       settled = decodeOf k L n (take left code)
@@ -95,11 +95,11 @@ module _ (k L : ℕ) (label picture : List ℕ) (given : Given k L label picture
       ))
 
       pub out-is : outOfRecord label (take m ((intoRecord k L label picture limit numbers bytes room) .room)) payload lent shown greys
-          ≡ seenAs k L n recorded payload (m / 512) settled
+          ≡ seenAs k L n recorded payload (m / blockBytes) settled
       unfolding outOfRecord
       out-is =
           ap (λ (r : Read). let d = decodingJob (r .k) (r .L) (r .n) lent (r .room) (r .bits) in record { read = r; decoded = d; rebuilt = inverseJob (r .k) (r .L) (d .numbers) shown greys })
           (ap (λ (w : Writing). readingJob (take m (w .room)) label payload) into-is ∙ read k L truth truth-given limit bytes label (given .labelled) room room-fits m opens within payload payload-fits)
-          ∙ ap (λ (d : Decoding). record { read = readBack k L n recorded payload (m / 512); decoded = d; rebuilt = inverseJob k L (d .numbers) shown greys })
+          ∙ ap (λ (d : Decoding). record { read = readBack k L n recorded payload (m / blockBytes); decoded = d; rebuilt = inverseJob k L (d .numbers) shown greys })
           (decoded k L truth truth-given limit bytes label (given .labelled) room room-fits m opens within payload payload-fits lent lent-fits)
-          ∙ ap {B = Seen} (λ (i : Inverse). record { read = readBack k L n recorded payload (m / 512); decoded = settledJob settled; rebuilt = i }) rebuilt
+          ∙ ap {B = Seen} (λ (i : Inverse). record { read = readBack k L n recorded payload (m / blockBytes); decoded = settledJob settled; rebuilt = i }) rebuilt

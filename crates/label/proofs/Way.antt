@@ -14,7 +14,7 @@ use Rattle.paper.specs.Sizes.{sizeIn, levelsIn, planesIn, numbersIn, mostBits, 
 use Rattle.paper.specs.Lists.{over, parts}
 use Rattle.paper.specs.Walk.{planeCount, codeOf, decodeOf, Settled}
 use Rattle.paper.specs.Bits.{bits, packed, laid, byteOf}
-use Rattle.paper.specs.Block.{isLabel}
+use Rattle.paper.specs.Block.{blockBytes, payloadStart, payloadBytes, isLabel}
 use Rattle.paper.specs.Record.{blocksFor}
 use Rattle.paper.specs.Jobs.{sizesRefusal, isSquare, Coding, codingRefusal, writtenOf, codingJob, Decoding, decodingRefusal, settledJob, decodingJob, Writing, writingRefusal, writingJob, Read, readingJob}
 use Rattle.sizes.proofs.Ranges.{levels-less}
@@ -77,14 +77,14 @@ module _ (k L : ℕ) (numbers : List ℤ) (given : Numbers k L numbers) (limit :
   bits-written = bits-laid bytes written fits
 
   -- ---- record writing
-  module _ (label : List ℕ) (labelled : isLabel label ≡ true) (room : List ℕ) (blocks-fit : 512 * blocksFor (length written) ≤ length room) where
+  module _ (label : List ℕ) (labelled : isLabel label ≡ true) (room : List ℕ) (blocks-fit : blockBytes * blocksFor (length written) ≤ length room) where
     pub accepted : writingRefusal k L (planeCount numbers) label (laid written bytes) (length written) room ≡ 0
     unfolding writingRefusal
     accepted = sizes-passed k L _ (given .size) (given .levels) ∙ rw (
       count-in numbers,
       le-leb (length written) (8 * length (laid written bytes)) (omega (arith, fits, length-laid written bytes)),
       le-leb (length written) (mostBits k (planeCount numbers)) bounded,
-      le-leb (512 * blocksFor (length written)) (length room) blocks-fit,
+      le-leb (blockBytes * blocksFor (length written)) (length room) blocks-fit,
       labelled,
     )
 
@@ -93,24 +93,24 @@ module _ (k L : ℕ) (numbers : List ℤ) (given : Numbers k L numbers) (limit :
     record-room = (writingJob k L (planeCount numbers) label (laid written bytes) (length written) room) .room
 
     -- ---- reading a first part of it, of m bytes
-    module _ (m : ℕ) (opens : 512 ≤ m) (within : m ≤ 512 * blocksFor (length written)) (payload : List ℕ) (payload-fits : 492 * (m / 512) ≤ length payload) where
+    module _ (m : ℕ) (opens : blockBytes ≤ m) (within : m ≤ blockBytes * blocksFor (length written)) (payload : List ℕ) (payload-fits : payloadBytes payloadStart * (m / blockBytes) ≤ length payload) where
       -- the bits that come back
       abbrev pub kept : ℕ
-      kept = bitsIn written (m / 512)
+      kept = bitsIn written (m / blockBytes)
 
-      pub read : readingJob (take m record-room) label payload ≡ readBack k L (planeCount numbers) written payload (m / 512)
+      pub read : readingJob (take m record-room) label payload ≡ readBack k L (planeCount numbers) written payload (m / blockBytes)
       read =
           read-written k L (planeCount numbers) label (laid written bytes) (length written) room accepted m payload opens within payload-fits
-          ∙ ap (λ l. readBack k L (planeCount numbers) l payload (m / 512)) bits-written
+          ∙ ap (λ l. readBack k L (planeCount numbers) l payload (m / blockBytes)) bits-written
 
       -- ---- decoding what was read
       abbrev pub kept-room : List ℕ
-      kept-room = (readBack k L (planeCount numbers) written payload (m / 512)) .room
+      kept-room = (readBack k L (planeCount numbers) written payload (m / blockBytes)) .room
 
       first-bits : take kept (bits kept-room) ≡ take kept (codeOf k L numbers)
       first-bits =
           bits-front kept (packed (parts kept 8) (take kept written)) payload (omega (arith, packed-length (parts kept 8) (take kept written)))
-          ∙ bits-read written (m / 512)
+          ∙ bits-read written (m / blockBytes)
           ∙ written-first kept (omega arith)
 
       pub decoded : (lent : List ℤ) → length lent ≡ 4 ^ k → decodingJob k L (planeCount numbers) lent kept-room kept ≡ settledJob (decodeOf k L (planeCount numbers) (take kept (codeOf k L numbers)))

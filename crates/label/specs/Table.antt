@@ -7,7 +7,7 @@ use lib.Dec.{leb, eqb}
 use lib.IntN.{ℤ}
 use lib.ListN.{length}
 use Rattle.paper.specs.Sizes.{sizeIn, levelsIn, planesIn, numbersIn, mostBits}
-use Rattle.paper.specs.Block.{isLabel, payloadBytes, payloadStart, checksRight, fieldsRight}
+use Rattle.paper.specs.Block.{blockBytes, isLabel, payloadBytes, payloadStart, checksRight, fieldsRight}
 use Rattle.paper.specs.Record.{blocksFor, wholeBlocks, blockAt, said, inTurn}
 use Rattle.paper.specs.Jobs.{isSquare}
 
@@ -55,12 +55,12 @@ inverseRows k L numbers picture room =
 abbrev pub writingRows : ℕ → ℕ → ℕ → List ℕ → List ℕ → ℕ → List ℕ → List Row
 writingRows k L n label bytes b room =
     row 1 (sizeIn k) ∷ row 2 (levelsIn k L) ∷ row 5 (planesIn n)
-    ∷ row 6 (leb b (8 * length bytes) && leb b (mostBits k n) && leb (512 * blocksFor b) (length room)) ∷ row 7 (isLabel label) ∷ []
+    ∷ row 6 (leb b (8 * length bytes) && leb b (mostBits k n) && leb (blockBytes * blocksFor b) (length room)) ∷ row 7 (isLabel label) ∷ []
 
 abbrev pub readingRows : List ℕ → List ℕ → List ℕ → List Row
 readingRows s label room =
-    row 6 (leb 512 (length s) && leb (payloadBytes payloadStart * wholeBlocks s) (length room)) ∷ row 7 (isLabel label)
+    row 6 (leb blockBytes (length s) && leb (payloadBytes payloadStart * wholeBlocks s) (length room)) ∷ row 7 (isLabel label)
     ∷ row 8 (checksRight (blockAt s 0)) ∷ row 9 (fieldsRight payloadStart (blockAt s 0)) ∷ row 10 (inTurn (said (blockAt s 0)) label 0 (blockAt s 0)) ∷ []
 
 abbrev pub checkRows : List ℕ → List Row
-checkRows block = row 6 (eqb (length block) 512) ∷ row 8 (checksRight block) ∷ row 9 (fieldsRight payloadStart block) ∷ []
+checkRows block = row 6 (eqb (length block) blockBytes) ∷ row 8 (checksRight block) ∷ row 9 (fieldsRight payloadStart block) ∷ []
