@@ -10,6 +10,9 @@ ghost use Rattle.paper.specs.Walk.{depth, decodeOf};
 ghost use Rattle.paper.specs.Jobs.{decodingRefusal, decodingJob};
 use planes::Done;
 
+// More bits than any decoding reads: of every plane at most 3 for each number.
+const READ_LIMIT: usize = sizes::MOST_PLANES as usize * (3 << (2 * sizes::MOST_SIZE));
+
 // b bits are lent. 8 times the bytes can be more than a place can count, so b is compared by its whole bytes and what
 // is over.
 fn lent(bytes: &[u8], b: usize) -> bool
@@ -68,8 +71,8 @@ fn smaller(a: usize, b: usize) -> usize
     if b < a { b } else { a }
 }
 
-// What the first b bits settle, of sizes that are right. No walk reads 4,194,304 bits, and with no more than that there
-// is a place left to say that a bit was missed.
+// What the first b bits settle, of sizes that are right. No walk reads more bits than the limit, and with no more than
+// that there is a place left to say that a bit was missed.
 fn settle(k: u32, levels: u32, n: u32, numbers: &mut [i32], bytes: &[u8], b: usize) -> Done
     requires { ⌜ levels < k ⌝ }
     requires { ⌜ k ≤ mostSize ⌝ }
@@ -80,7 +83,7 @@ fn settle(k: u32, levels: u32, n: u32, numbers: &mut [i32], bytes: &[u8], b: usi
 {
     clear(numbers);
     let first = first_set(k, levels);
-    let c = smaller(4194304, b);
+    let c = smaller(READ_LIMIT, b);
     let s = planes::read_planes(numbers, first, n, bytes, c);
     let read = smaller(s.at, c);
     Done {

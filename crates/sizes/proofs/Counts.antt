@@ -1,10 +1,9 @@
 -- Powers of 4 as the machine has them, and how large the most bits can be.
-use mathlib.Core.Path.{_≡_, refl, sym, ap, _∙_}
-use mathlib.Core.Bool.{Bool, true, false}
-use Prim.Native.Nat.{ℕ, zero, suc, _+_, _*_, _-_, _/_, _%_, _^_, _<_, _≤_}
+use mathlib.Core.Path.{_≡_, refl}
+use Prim.Native.Nat.{ℕ, zero, suc, _*_, _%_, _^_, _<_, _≤_}
 use native.Mathlib.Omega.{arith}
 use native.Mathlib.Nat.{pow-suc, pow-le-pow-right, mod-eq-of-lt, mul-le-mul-right, one-mul}
-use lib.Pow.{pow-add}
+use Rattle.paper.specs.Sizes.{mostPlanes}
 
 -- 2 ^ (2 * k) is 4 ^ k
 pub square-power : (k : ℕ) → 2 ^ (2 * k) ≡ 4 ^ k
@@ -19,10 +18,10 @@ area-shifted k h =
     let b : 4 ^ k ≤ 4 ^ 31 = pow-le-pow-right {n = 4} (omega arith) h in
     rw (one-mul (2 ^ (2 * k)), square-power k) (mod-eq-of-lt (omega arith))
 
--- 1 to 65,536 places
+-- a picture has a place
 pub area-some : (k : ℕ) → 1 ≤ 4 ^ k
 area-some k = pow-le-pow-right {n = 4} (omega arith) {i = 0} {j = k} (omega arith)
 
--- n times what a plane has, at most 18 times as much
-pub planes-times : (n m : ℕ) → n ≤ 18 → n * m ≤ 18 * m
+-- n times what a plane has, at most as much as all planes have
+pub planes-times : (n m : ℕ) → n ≤ mostPlanes → n * m ≤ mostPlanes * m
 planes-times n m h = mul-le-mul-right m h

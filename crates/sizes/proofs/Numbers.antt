@@ -2,43 +2,42 @@
 use mathlib.Core.Path.{_≡_, refl, sym, ap, _∙_}
 use mathlib.Core.Bool.{Bool, true, false, _&&_}
 use mathlib.Core.List.{List, [], _∷_}
-use Prim.Native.Nat.{ℕ, zero, suc, _+_, _*_, _-_, _/_, _%_, _^_, _<_, _≤_, max}
+use Prim.Native.Nat.{ℕ, zero, suc, _+_, _*_, _-_, _/_, _^_, _<_, _≤_, max}
 use native.Mathlib.Omega.{arith}
 use native.Mathlib.Nat.{pow-suc}
 use native.Mathlib.Numerals.{add-one}
-use lib.Dec.{leb, ltb}
-use lib.IntN.{ℤ, pos, negsuc, natAbs, _-ℤ_}
-use lib.ListN.{length, drop, getD}
+use lib.Dec.{T, leb}
+use lib.IntN.{ℤ, pos, negsuc, negℤ, natAbs, _-ℤ_}
+use lib.ListN.{length, drop}
 use lib.Seq.{drop-cons, drop-length}
 use lib.Signed.{ltZ, leZ, nonNeg}
-use lib.Dec.{T}
 use mir.Syntax.{w32}
 use mir.Val.{Fits, SFits}
 use borrow.Author.Tests.{leb-true, le-leb, lt-leb, ltb-true, ltb-false}
 use Rattle.integer_laws.specs.Difference.{split, apart}
 use Rattle.integer_laws.specs.Order.{Within, ints, zarith}
-use Rattle.paper.specs.Sizes.{planesIn, numbersIn, numberLimit}
+use Rattle.paper.specs.Sizes.{planesIn, numbersIn, numberLimit, mostPlanes}
 use Rattle.paper.specs.Lists.{at}
 use Rattle.paper.specs.Walk.{largest, bitsNeeded, planeCount}
 use Rattle.sizes.proofs.Ranges.{both-first, both-second}
 
 -- ---- one number
-pub number-below : (x : ℤ) → ltZ x (negsuc 262142) ≡ true → leb (natAbs x) numberLimit ≡ false
+pub number-below : (x : ℤ) → ltZ x (negℤ (pos numberLimit)) ≡ true → leb (natAbs x) numberLimit ≡ false
 number-below (pos m) e = absurd (let z : _≡_ {A = ℕ} 0 1 = cc in omega arith)
-number-below (negsuc m) e = lt-leb (suc m) 262143 (omega (arith, ltb-true 262142 m e))
+number-below (negsuc m) e = lt-leb (suc m) numberLimit (omega (arith, ltb-true (numberLimit - 1) m e))
 
-pub number-above : (x : ℤ) → ltZ x (negsuc 262142) ≡ false → leZ x (pos 262143) ≡ leb (natAbs x) numberLimit
+pub number-above : (x : ℤ) → ltZ x (negℤ (pos numberLimit)) ≡ false → leZ x (pos numberLimit) ≡ leb (natAbs x) numberLimit
 number-above (pos m) e = refl
-number-above (negsuc m) e = sym (le-leb (suc m) 262143 (omega (arith, ltb-false 262142 m e)))
+number-above (negsuc m) e = sym (le-leb (suc m) numberLimit (omega (arith, ltb-false (numberLimit - 1) m e)))
 
-pub number-within : (x : ℤ) → leb (natAbs x) numberLimit ≡ true → Within 262143 x
-number-within x e = record { size = leb-true (natAbs x) 262143 e }
+pub number-within : (x : ℤ) → leb (natAbs x) numberLimit ≡ true → Within numberLimit x
+number-within x e = record { size = leb-true (natAbs x) numberLimit e }
 
 -- its magnitude, as the code has it for a number below 0 and for another
-pub magnitude-below : (x : ℤ) → Within 262143 x → ltZ x (pos 0) ≡ true → SFits w32 (pos 0 -ℤ x) × (T (nonNeg (pos 0 -ℤ x)) × Fits w32 (natAbs (pos 0 -ℤ x))) × (natAbs (pos 0 -ℤ x) ≡ natAbs x)
+pub magnitude-below : (x : ℤ) → Within numberLimit x → ltZ x (pos 0) ≡ true → SFits w32 (pos 0 -ℤ x) × (T (nonNeg (pos 0 -ℤ x)) × Fits w32 (natAbs (pos 0 -ℤ x))) × (natAbs (pos 0 -ℤ x) ≡ natAbs x)
 magnitude-below x = rw (split x) (simp ints (omega (zarith, apart x)))
 
-pub magnitude-above : (x : ℤ) → Within 262143 x → ltZ x (pos 0) ≡ false → T (nonNeg x) × Fits w32 (natAbs x)
+pub magnitude-above : (x : ℤ) → Within numberLimit x → ltZ x (pos 0) ≡ false → T (nonNeg x) × Fits w32 (natAbs x)
 magnitude-above x = rw (split x) (simp ints (omega zarith))
 
 -- ---- numbers in order
@@ -75,11 +74,11 @@ unfolding largest
 largest-all xs i e = rw (e, drop-length xs)
 
 -- the largest is within the limit where all are
-pub largest-in : (xs : List ℤ) → numbersIn xs ≡ true → largest xs ≤ 262143
+pub largest-in : (xs : List ℤ) → numbersIn xs ≡ true → largest xs ≤ numberLimit
 unfolding numbersIn largest
 largest-in [] e = omega arith
 largest-in (x ∷ xs) e =
-    omega (arith, leb-true (natAbs x) 262143 (both-first (leb (natAbs x) 262143) (numbersIn xs) e), largest-in xs (both-second (leb (natAbs x) 262143) (numbersIn xs) e))
+    omega (arith, leb-true (natAbs x) numberLimit (both-first (leb (natAbs x) numberLimit) (numbersIn xs) e), largest-in xs (both-second (leb (natAbs x) numberLimit) (numbersIn xs) e))
 
 -- ---- bits
 pub none-needed : (f : ℕ) → bitsNeeded f 0 ≡ 0
@@ -120,4 +119,4 @@ bits-most (suc f) m = go (leb 1 m) (bits-most f (m / 2))
 
 pub count-in : (xs : List ℤ) → planesIn (planeCount xs) ≡ true
 unfolding planesIn planeCount
-count-in xs = le-leb (bitsNeeded 18 (largest xs)) 18 (bits-most 18 (largest xs))
+count-in xs = le-leb (bitsNeeded mostPlanes (largest xs)) mostPlanes (bits-most mostPlanes (largest xs))

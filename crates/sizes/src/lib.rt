@@ -5,38 +5,51 @@ ghost use Prim.Native.Nat.{ℕ, _+_, _*_, _/_, _^_, _≤_, max};
 ghost use lib.Dec.{leb};
 ghost use lib.IntN.{natAbs};
 ghost use Rattle.integer_laws.specs.Order.{Within};
-ghost use Rattle.paper.specs.Sizes.{sizeIn, levelsIn, planesIn, numbersIn, numberLimit, mostBits, greyLimit};
+ghost use Rattle.paper.specs.Sizes.{sizeIn, levelsIn, planesIn, numbersIn, numberLimit, mostPlanes, mostBits, greyLimit};
 ghost use Rattle.paper.specs.Walk.{largest, bitsNeeded, planeCount};
 ghost use Rattle.paper.specs.Jobs.{sizesRefusal};
 
-// k from 3 to 8.
+// The least and the largest k of a side 2^k.
+pub const LEAST_SIZE: u32 = 3;
+
+pub const MOST_SIZE: u32 = 8;
+// The most levels, whatever the side.
+pub const MOST_LEVELS: u32 = 5;
+// The most planes.
+pub const MOST_PLANES: u32 = 18;
+// The largest magnitude of a wavelet number, and the least number that has it.
+pub const NUMBER_LIMIT: i32 = 262143;
+
+const LEAST_NUMBER: i32 = -NUMBER_LIMIT;
+
+// k in its range.
 pub fn size_in(k: u32) -> bool
     ensures { λ r. ⌜ r ≡ sizeIn k ⌝ }
 {
-    if k < 3 {
+    if k < LEAST_SIZE {
         return false;
     }
-    k <= 8
+    k <= MOST_SIZE
 }
 
-// L from 1 to the smaller of 5 and k - 1.
+// L from 1 to the smaller of the most levels and k - 1.
 pub fn levels_in(k: u32, levels: u32) -> bool
     ensures { λ r. ⌜ r ≡ levelsIn k levels ⌝ }
 {
     if levels < 1 {
         return false;
     }
-    if levels > 5 {
+    if levels > MOST_LEVELS {
         return false;
     }
     levels < k
 }
 
-// n at most 18.
+// n at most the most planes.
 pub fn planes_in(n: u32) -> bool
     ensures { λ r. ⌜ r ≡ planesIn n ⌝ }
 {
-    n <= 18
+    n <= MOST_PLANES
 }
 
 // Refusals 1 and 2, or 0.
@@ -67,17 +80,17 @@ pub fn most_bits(k: u32, n: u32) -> usize
     n as usize * (4 * places - 1) / 3 + places
 }
 
-// A number within ±262,143. Compared with both limits, since the least 32-bit number has no magnitude of 32 bits.
+// A number within the limit. Compared with both limits, since the least 32-bit number has no magnitude of 32 bits.
 pub fn number_in(x: i32) -> bool
     ensures { λ r. ⌜ r ≡ leb (natAbs x) numberLimit ⌝ }
 {
-    if x < -262143 {
+    if x < LEAST_NUMBER {
         return false;
     }
-    x <= 262143
+    x <= NUMBER_LIMIT
 }
 
-// No number beyond ±262,143.
+// No number beyond the limit.
 pub fn numbers_in(xs: &[i32]) -> bool
     ensures { λ r. ⌜ r ≡ numbersIn (now (xs .entry)) ⌝ }
 {
@@ -122,7 +135,7 @@ fn largest(xs: &[i32]) -> u32
 // The bits that a magnitude needs.
 fn bits_needed(m: u32) -> u32
     requires { ⌜ m ≤ numberLimit ⌝ }
-    ensures { λ r. ⌜ r ≡ bitsNeeded 18 m ⌝ }
+    ensures { λ r. ⌜ r ≡ bitsNeeded mostPlanes m ⌝ }
 {
     let mut left = m;
     let mut n: u32 = 0;

@@ -5,7 +5,7 @@ use mathlib.Core.Bool.{Bool, true, false}
 use mathlib.Core.Option.{Option, none, some}
 use mathlib.Core.List.{List, [], _∷_, _++_, append-assoc}
 use Prim.Native.Nat.{ℕ, zero, suc, _+_, _*_, _-_, _^_, _<_, _≤_}
-use native.Mathlib.Nat.{suc-mul, mul-le-mul-right, pow-le-pow-right}
+use native.Mathlib.Nat.{suc-mul, mul-le-mul, pow-le-pow-right}
 use native.Mathlib.Omega.{arith}
 use lib.Dec.{leb}
 use borrow.Author.Tests.{leb-true, leb-false}
@@ -306,17 +306,16 @@ module _ (k L n : ℕ) where
           on (enough E) = ap (decodeOf k L n) (sym (take-append-drop K l)) ∙ decoded-enough (take K l ++ drop K l) (enough-more (drop K l) E) ∙ sym (decoded-enough (take K l) E)
           on (short g M) = absurd (omega (arith, g, h, length-take K l, leb-false (length l) K e))
 
--- more bits than any decoding reads
+-- more bits than any decoding reads: of every plane at most 3 for each number
 abbrev pub readLimit : ℕ
-readLimit = 4194304
+readLimit = mostPlanes * (3 * 4 ^ mostSize)
+
+few-read : (k L n size planes : ℕ) → L < k → k ≤ size → n ≤ planes → mostRead k L n ≤ planes * (3 * 4 ^ size)
+few-read k L n size planes h g m =
+    let d = depth k L in
+    let e : 4 ^ (suc d + L) ≡ 4 ^ k = ap (λ j. 4 ^ j) (let e : suc d + L ≡ k = omega arith in e) in
+    mul-le-mul {m₂ = 3 * 4 ^ size} m (omega (arith, set-tests d, rest-tests d L, pow-le-pow-right {n = 4} (omega arith) g))
 
 -- Of any bits, those after the limit change nothing.
 pub read-limit : (k L n : ℕ) → L < k → k ≤ mostSize → n ≤ mostPlanes → (l : List Bool) → decodeOf k L n l ≡ decodeOf k L n (take readLimit l)
-read-limit k L n h g m = beyond k L n readLimit enough-bits
-  where
-    enough-bits : most k L n ≤ readLimit
-    enough-bits =
-        let e : suc (depth k L) + L ≡ k = omega arith in
-        let b : 4 ^ k ≤ 4 ^ 8 = pow-le-pow-right {n = 4} (omega arith) g in
-        let c : planeMost (depth k L) L (4 ^ k) ≤ 196608 = omega (arith, set-tests (depth k L), rest-tests (depth k L) L, ap (λ j. 4 ^ j) e) in
-        omega (arith, mul-le-mul-right (planeMost (depth k L) L (4 ^ k)) m)
+read-limit k L n h g m = beyond k L n readLimit (few-read k L n mostSize mostPlanes h g m)

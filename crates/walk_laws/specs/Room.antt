@@ -18,7 +18,7 @@ use Rattle.walk_laws.specs.Cleared.{natAbs-signed}
 use Rattle.walk_laws.specs.Asks.{behind, number-known, number-asks, afterBit, opened}
 use Rattle.walk_laws.specs.Together.{tape, Decodes}
 
--- every magnitude leaves room for 2 ^ k below 2 ^ 18
+-- every magnitude leaves room for 2 ^ k below 2 ^ mostPlanes
 abbrev pub Room : ℕ → List ℤ → Type 0
 Room k [] = Unit {0}
 Room k (x ∷ xs) = (natAbs x + 2 ^ k ≤ 2 ^ mostPlanes) × Room k xs

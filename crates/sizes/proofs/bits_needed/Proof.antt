@@ -1,5 +1,6 @@
 use mathlib.Core.Path.{ap}
 use Rattle.sizes.proofs.Numbers.{count-halved, none-needed}
+use Rattle.paper.specs.Sizes.{mostPlanes}
 use Rattle.paper.specs.Walk.{bitsNeeded}
 use native.Mathlib.Omega.{arith}
 use mathlib.Core.Path.{_≡_, refl, sym, _∙_}
@@ -9,7 +10,7 @@ use Rattle.sizes.proofs.bits_needed.Statement.{statement}
 use Rattle.sizes.proofs.bits_needed.Tie as tie
 
 abbrev Inv-loop : tie.InvT-loop
-Inv-loop m left₀ n₀ left n = (n ≤ 18) × (left < 2 ^ (18 - n)) × (n + bitsNeeded (18 - n) left ≡ bitsNeeded 18 m)
+Inv-loop m left₀ n₀ left n = (n ≤ mostPlanes) × (left < 2 ^ (mostPlanes - n)) × (n + bitsNeeded (mostPlanes - n) left ≡ bitsNeeded mostPlanes m)
 
 abbrev μ-loop : tie.MeasureT-loop
 μ-loop m left₀ n₀ left n = left
@@ -24,10 +25,10 @@ loop-less : tie.Need-loop-less Inv-loop μ-loop
 loop-less c = search needs
 
 loop-again : tie.Need-loop-again Inv-loop μ-loop
-loop-again c = let v = c .before .loop .inv in let H = count-halved 18 _ _ _ (omega arith) (v .1) (v .2) in (omega (arith, H .more), H .small, H .same)
+loop-again c = let v = c .before .loop .inv in let H = count-halved mostPlanes _ _ _ (omega arith) (v .1) (v .2) in (omega (arith, H .more), H .small, H .same)
 
 returns : tie.Need-returns Inv-loop μ-loop
-returns c = let v = c .before .loop .inv in let z : c .before .loop .left ≡ 0 = omega arith in omega (arith, v .2, ap (bitsNeeded (18 - c .before .loop .n)) z ∙ none-needed (18 - c .before .loop .n))
+returns c = let v = c .before .loop .inv in let z : c .before .loop .left ≡ 0 = omega arith in omega (arith, v .2, ap (bitsNeeded (mostPlanes - c .before .loop .n)) z ∙ none-needed (mostPlanes - c .before .loop .n))
 
 pub bits-needed-spec : {M : Type 1} → statement M
 bits-needed-spec =

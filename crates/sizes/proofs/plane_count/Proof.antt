@@ -1,4 +1,5 @@
 use Rattle.sizes.proofs.Numbers.{largest-in}
+use Rattle.paper.specs.Sizes.{mostPlanes}
 use Rattle.paper.specs.Walk.{bitsNeeded, planeCount}
 use native.Mathlib.Omega.{arith}
 use mathlib.Core.Path.{ap, _∙_}
@@ -14,7 +15,7 @@ bits-needed-requires c κs = omega (arith, c .largest .ensures, largest-in _ (c 
 
 returns : tie.Need-returns
 unfolding planeCount
-returns c = c .bits-needed .ensures ∙ ap (bitsNeeded 18) (c .before .largest .ensures)
+returns c = c .bits-needed .ensures ∙ ap (bitsNeeded mostPlanes) (c .before .largest .ensures)
 
 pub plane-count-spec : {M : Type 1} → statement M
 plane-count-spec = tie.close (tie.spec largest-requires bits-needed-requires returns)
