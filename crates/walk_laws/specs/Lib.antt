@@ -7,5 +7,6 @@ pub mod Decoded
 pub mod Bound
 pub mod Finished
 pub mod Read
+pub mod Due
 pub mod Unfinished
 pub mod Room

@@ -2,9 +2,9 @@
 -- every bit of a plane has been read is said of the bits and not of the decoder's flag.
 use mathlib.Core.Path.{_≡_, refl, sym, ap, _∙_}
 use mathlib.Core.Bool.{Bool, true, false}
-use mathlib.Core.List.{List, _++_}
+use mathlib.Core.List.{List, [], _++_, append-nil}
 use Prim.Native.Nat.{ℕ, zero, suc, _+_, _*_, _-_, _^_, _<_, _≤_}
-use native.Mathlib.Nat.{suc-mul}
+use native.Mathlib.Nat.{suc-mul, pow-le-pow-right}
 use native.Mathlib.Omega.{arith}
 use lib.Dec.{leb, ltb}
 use borrow.Author.Tests.{leb-true, leb-false, le-leb, lt-leb, ltb-true, ltb-false, lt-ltb, le-ltb}
@@ -15,6 +15,7 @@ use Rattle.paper.specs.Walk.{Decoder, Tape, walkPlane, walkPlanes, depth, decod
 use Rattle.walk_laws.specs.Together.{tape, Decodes}
 use Rattle.walk_laws.specs.Bound.{setTests, restTests}
 use Rattle.walk_laws.specs.Planes.{plane-finished, plane-stopped}
+use Rattle.walk_laws.specs.Due.{plane-due}
 use Rattle.walk_laws.specs.Read.{enough-is, enough-more, Enough, Missed, Outcome, enough, short, Reads, Length, reads-both, reads-more, reads-done, planeMost, mostRead, walks-plane}
 
 -- ---- planes n - 1 down to q
@@ -63,6 +64,11 @@ count-most d L (suc p) xs t = go ((walkPlane Decoder d L p xs t) .1 .missed) (co
         → ((elim m as (λ _. Decodes (List ℤ × ℕ)) [ true ↦ Decoder .done ((walkPlane Decoder d L p xs t) .0, suc p) | false ↦ walkPlanes Decoder d L p ((walkPlane Decoder d L p xs t) .0) ]) ((walkPlane Decoder d L p xs t) .1)) .0 .1 ≤ suc p
     go true ih = omega arith
     go false ih = omega (arith, ih ((walkPlane Decoder d L p xs t) .0) ((walkPlane Decoder d L p xs t) .1))
+
+-- every plane takes a bit, so where none is left all planes are unfinished
+none-left : (d L n : ℕ) (xs : List ℤ) → 0 < length xs → (walkPlanes Decoder d L n xs (tape [] false)) .0 .1 ≡ n
+none-left d L zero xs h = unfold walkPlanes in refl
+none-left d L (suc p) xs h = ap (λ r. r .0 .1) (plane-stopped d L p xs (tape [] false) (λ i. ((walkPlane Decoder d L p xs (tape [] false)) .0, plane-due d L p xs h i)))
 
 module _ (d L q p : ℕ) (xs : List ℤ) where
   pub down-step : leb q p ≡ true → walkDown d L q (suc p) xs ≡ Decoder .then (walkPlane Decoder d L p xs) (walkDown d L q p)
@@ -193,6 +199,14 @@ module _ (k L n : ℕ) where
           absurd (omega (arith, same, has-through q m E, leb-false c b e, ap length (D .parts), length-append (D .taken) (D .rest), length-take b m))
       go false e (short g M) = lt-leb (unfinished (take b m)) q (short-unfinished q (take b m) M)
 
+  -- after the last bit of these planes
+  has-last : (q : ℕ) (m : List Bool) → q ≤ n → (E : Has q m) → unfinished (E .taken) ≡ q
+  unfolding decodeOf
+  has-last q m h E =
+      let s : walkDown (depth k L) L q n start (tape (E .taken) false) ≡ (E .answer, tape [] false) = ap (λ l. walkDown (depth k L) L q n start (tape l false)) (sym (append-nil (E .taken))) ∙ E .is [] in
+      ap (λ r. r .0 .1) (goes-on (depth k L) L (4 ^ k) q n start (length-replicate (4 ^ k) (pos 0)) (E .taken) h (ap (λ r. r .1 .missed) s) ∙ ap (λ r. walkPlanes Decoder (depth k L) L q (r .0) (r .1)) s)
+      ∙ none-left (depth k L) L q (E .answer) (omega (arith, E .known, pow-le-pow-right {n = 4} (omega arith) {i = 0} {j = k} (omega arith)))
+
   -- ---- any bits
   -- Bits as many as decoding can read have every bit of every plane: so any bits are a first part of such bits.
   pub most-read : (q : ℕ) (l : List Bool) → mostRead k L n ≤ length l → AllRead k L n q l
@@ -237,6 +251,24 @@ module _ (k L n : ℕ) where
   -- Where they have not all been read, all of l is read (`read-all`), and a further bit is due.
   pub unfinished-due : (q : ℕ) (l : List Bool) → q < unfinished l → (r : List Bool) → AllRead k L n q (l ++ r) → length l < bitsThrough k L n q (l ++ r)
   unfinished-due q l h r a = leb-false (bitsThrough k L n q (l ++ r)) (length l) (sym (first-part q l r a) ∙ lt-leb (unfinished l) q h)
+
+  -- After the last bit of plane q exactly q planes are unfinished, and one bit before it q + 1.
+  pub last-bit-any : (q : ℕ) (m : List Bool) → q ≤ n → AllRead k L n q m → unfinished (take (bitsThrough k L n q m) m) ≡ q
+  last-bit-any q m h a =
+      let E = finished-has q m (read-finished q m a) in
+      ap unfinished ((λ i. take (has-through q m E i) (E .parts i)) ∙ take-at (E .taken) (E .rest) (length (E .taken)) refl) ∙ has-last q m h E
+
+  pub before-last-bit-any : (q : ℕ) (m : List Bool) → q < n → AllRead k L n q m → unfinished (take (bitsThrough k L n q m - 1) m) ≡ suc q
+  before-last-bit-any q m h a =
+      let c = bitsThrough k L n q m in
+      let b = bitsThrough k L n (suc q) m in
+      let above = finished-read (suc q) m (omega (arith, read-finished q m a)) in
+      let less : b < c = leb-false c b (sym (cut-finished q m a b) ∙ lt-leb (unfinished (take b m)) q (omega (arith, last-bit-any (suc q) m h above))) in
+      omega (
+        arith,
+        leb-true (unfinished (take (c - 1) m)) (suc q) (cut-finished (suc q) m above (c - 1) ∙ le-leb b (c - 1) (omega arith)),
+        leb-false (unfinished (take (c - 1) m)) q (cut-finished q m a (c - 1) ∙ lt-leb c (c - 1) (omega arith)),
+      )
 
   -- So p is n less the planes whose every bit has been read, whatever bits make l whole.
   pub unfinished-true : (l r : List Bool) → AllRead k L n 0 (l ++ r) → unfinished l ≡ n - planesRead k L n (l ++ r) (length l)
