@@ -2,13 +2,13 @@
 use mathlib.Core.Path.{_≡_, refl, ap, _∙_}
 use mathlib.Core.Bool.{Bool, true, false}
 use mathlib.Core.List.{List, [], _∷_}
-use Prim.Native.Nat.{ℕ, zero, suc, _+_, _*_, _^_, _<_}
+use Prim.Native.Nat.{ℕ, zero, suc, _^_, _<_}
 use native.Mathlib.Nat.{pow-le-pow-right}
 use native.Mathlib.Omega.{arith}
 use lib.Dec.{leb}
 use lib.IntN.{ℤ, natAbs}
 use lib.ListN.{length, take, drop, length-take}
-use Rattle.paper.specs.Walk.{reaches, Decoder, testSet, walkNumber, walkNumbers, walkSet, walkRest, walkPlane, _next_}
+use Rattle.paper.specs.Walk.{reaches, Decoder, testSet, walkNumber, walkNumbers, walkSet, walkPlane, _next_}
 use Rattle.walk_laws.specs.Asks.{test-known, test-asks, number-known, number-asks, opened}
 use Rattle.walk_laws.specs.Together.{tape, Decodes}
 use Rattle.walk_laws.specs.Read.{Reads, Length, reads-numbers, walks-set, walks-rest, walks-split}

@@ -3,10 +3,9 @@ use mathlib.Core.Path.{_≡_, refl, sym, ap, _∙_}
 use mathlib.Core.Bool.{Bool, true, false}
 use mathlib.Core.List.{List, [], map, append-nil}
 use Prim.Native.Nat.{ℕ, zero, suc, _+_, _-_, _^_, _≤_, _<_}
-use native.Mathlib.Nat.{pow-le-pow-right}
 use native.Mathlib.Omega.{arith}
 use lib.Dec.{leb}
-use borrow.Author.Tests.{leb-true, leb-false, le-leb, lt-leb}
+use borrow.Author.Tests.{leb-true, leb-false}
 use lib.IntN.{ℤ}
 use lib.ListN.{length, drop, length-drop}
 use Rattle.paper.specs.Sizes.{numbersIn}
@@ -17,7 +16,6 @@ use Rattle.walk_laws.specs.Together.{tape}
 use Rattle.walk_laws.specs.Plane.{together-plane}
 use Rattle.walk_laws.specs.Planes.{planesCode, code-step}
 use Rattle.walk_laws.specs.Decoded.{decodedFirst, square-closes, start-cleared, coding-decoded}
-use Rattle.walk_laws.specs.Bound.{plane-some}
 use Rattle.walk_laws.specs.Unfinished.{walkDown, down-step, down-ends, planesOver, AllRead, bitsThrough, finished-read, through-first, last-bit-any, before-last-bit-any}
 
 -- how many bits the coding has up to the last bit of plane q: all but those of planes q - 1 to 0
