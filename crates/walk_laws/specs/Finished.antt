@@ -16,7 +16,8 @@ use Rattle.walk_laws.specs.Together.{tape}
 use Rattle.walk_laws.specs.Plane.{together-plane}
 use Rattle.walk_laws.specs.Planes.{planesCode, code-step}
 use Rattle.walk_laws.specs.Decoded.{decodedFirst, square-closes, start-cleared, coding-decoded}
-use Rattle.walk_laws.specs.Unfinished.{walkDown, down-step, down-ends, planesOver, AllRead, bitsThrough, finished-read, through-first, last-bit-any, before-last-bit-any}
+use Rattle.walk_laws.specs.Down.{walkDown, down-step, down-ends}
+use Rattle.walk_laws.specs.Unfinished.{planesOver, AllRead, bitsThrough, finished-read, through-first, last-bit-any, before-last-bit-any}
 
 -- how many bits the coding has up to the last bit of plane q: all but those of planes q - 1 to 0
 unfoldable pub codedThrough : ℕ → ℕ → List ℤ → ℕ → ℕ
