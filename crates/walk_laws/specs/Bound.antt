@@ -1,4 +1,4 @@
--- How many bits a coding has: each plane at least one, and all of them at most n (4 S² - 1) / 3 + S².
+-- How many bits a coding has: at most n (4 S² - 1) / 3 + S².
 use mathlib.Core.Path.{_≡_, refl, sym, ap, _∙_, subst}
 use mathlib.Core.Bool.{Bool, true, false}
 use mathlib.Core.Option.{some}
@@ -7,7 +7,7 @@ use Prim.Native.Nat.{ℕ, zero, suc, _+_, _*_, _-_, _/_, _^_, _≤_, _<_}
 use native.Mathlib.Nat.{pow-suc, two-pow-succ, suc-mul, mul-left-comm}
 use native.Mathlib.Omega.{arith}
 use lib.Dec.{leb}
-use borrow.Author.Tests.{leb-true, leb-false, le-leb}
+use borrow.Author.Tests.{leb-true, le-leb}
 use lib.IntN.{ℤ, natAbs}
 use lib.ListN.{length, take, drop, length-append, take-append-drop}
 use Rattle.paper.specs.Sizes.{numbersIn, mostBits}
@@ -32,22 +32,15 @@ unfolding fresh
 fresh-append p [] ys = omega arith
 fresh-append p (x ∷ xs) ys = omega (arith, fresh-append p xs ys)
 
--- what walking xs costs: at most k tests, a bit for each number, and the signs; if there is a number, at least one bit
+-- what walking xs costs: at most k tests, a bit for each number, and the signs
 record Cost (p : ℕ) (xs : List ℤ) (c : List ℤ × List Bool) (k : ℕ) : Type 0 where
   most : length (c .1) ≤ k + length xs + fresh p xs
-  least : 0 < length xs → 0 < length (c .1)
 
-module _ {p : ℕ} {xs ys : List ℤ} {c e : List ℤ × List Bool} {k j : ℕ} (C : Cost p xs c k) (D : Cost p ys e j) where
-  cost-next : Cost p (xs ++ ys) (_next_ Coder c e) (k + j)
-  unfolding _next_
-  cost-next = record {
-    most = omega (arith, C .most, D .most, length-append (c .1) (e .1 ++ []), ap length (append-nil (e .1)), length-append xs ys, fresh-append p xs ys);
-    least = λ h. go (leb 1 (length xs)) refl h;
-  }
-    where
-      go : (b : Bool) → leb 1 (length xs) ≡ b → 0 < length (xs ++ ys) → 0 < length (c .1 ++ (e .1 ++ []))
-      go true q h = omega (arith, C .least (leb-true 1 (length xs) q), length-append (c .1) (e .1 ++ []))
-      go false q h = omega (arith, D .least (omega (arith, leb-false 1 (length xs) q, length-append xs ys)), length-append (c .1) (e .1 ++ []), ap length (append-nil (e .1)))
+cost-next : {p : ℕ} {xs ys : List ℤ} {c e : List ℤ × List Bool} {k j : ℕ} → Cost p xs c k → Cost p ys e j → Cost p (xs ++ ys) (_next_ Coder c e) (k + j)
+unfolding _next_
+cost-next {p} {xs} {ys} {c} {e} C D = record {
+  most = omega (arith, C .most, D .most, length-append (c .1) (e .1 ++ []), ap length (append-nil (e .1)), length-append xs ys, fresh-append p xs ys);
+}
 
 cost-split : {p : ℕ} (n : ℕ) (xs : List ℤ) {c e : List ℤ × List Bool} {k j : ℕ} → Cost p (take n xs) c k → Cost p (drop n xs) e j → Cost p xs (_next_ Coder c e) (k + j)
 cost-split {p} n xs {c} {e} {k} {j} C D = subst (λ l. Cost p l (_next_ Coder c e) (k + j)) (take-append-drop n xs) (cost-next C D)
@@ -56,11 +49,11 @@ cost-tested : (p : ℕ) (xs : List ℤ) (c : List ℤ × List Bool) (k : ℕ) �
 cost-tested p xs c k C = go (reaches (2 ^ suc p) xs) refl
   where
     asked : (b : Bool) → Cost p xs (Coder .then {A = Bool} {B = List ℤ} (b, b ∷ []) (opened Coder xs c)) (suc k)
-    asked true = record { most = omega (arith, C .most); least = λ h. omega arith }
-    asked false = record { most = omega arith; least = λ h. omega arith }
+    asked true = record { most = omega (arith, C .most) }
+    asked false = record { most = omega arith }
 
     go : (b : Bool) → reaches (2 ^ suc p) xs ≡ b → Cost p xs (Coder .then {B = List ℤ} (testSet Coder p xs) (opened Coder xs c)) (suc k)
-    go true e = rw (test-known Coder p xs e) (record { most = omega (arith, C .most); least = C .least })
+    go true e = rw (test-known Coder p xs e) (record { most = omega (arith, C .most) })
     go false e = rw (test-asks Coder p xs e) (asked (reaches (2 ^ p) xs))
 
 cost-number : (p : ℕ) (x : ℤ) → Cost p (x ∷ []) (walkNumber Coder p x) 0
@@ -69,16 +62,16 @@ cost-number p x = go (leb (2 ^ suc p) (natAbs x)) refl
   where
     asked : (b : Bool) → leb (2 ^ suc p) (natAbs x) ≡ false → leb (2 ^ p) (natAbs x) ≡ b
         → Cost p (x ∷ []) (Coder .then {B = List ℤ} (some b, b ∷ []) (λ b. afterBit Coder p x (isOne Coder b))) 0
-    asked true e f = let g : freshBy (leb (2 ^ suc p) (natAbs x)) (leb (2 ^ p) (natAbs x)) ≡ 1 = λ i. freshBy (e i) (f i) in record { most = omega arith; least = λ h. omega arith }
-    asked false e f = record { most = omega arith; least = λ h. omega arith }
+    asked true e f = let g : freshBy (leb (2 ^ suc p) (natAbs x)) (leb (2 ^ p) (natAbs x)) ≡ 1 = λ i. freshBy (e i) (f i) in record { most = omega arith }
+    asked false e f = record { most = omega arith }
 
     go : (b : Bool) → leb (2 ^ suc p) (natAbs x) ≡ b → Cost p (x ∷ []) (walkNumber Coder p x) 0
-    go true e = rw (number-known Coder p x e) (record { most = omega arith; least = λ h. omega arith })
+    go true e = rw (number-known Coder p x e) (record { most = omega arith })
     go false e = rw (number-asks Coder p x e) (asked (leb (2 ^ p) (natAbs x)) e refl)
 
 cost-numbers : (p : ℕ) (xs : List ℤ) → Cost p xs (walkNumbers Coder p xs) 0
 unfolding walkNumbers
-cost-numbers p [] = record { most = omega arith; least = λ h. absurd (omega arith) }
+cost-numbers p [] = record { most = omega arith }
 cost-numbers p (x ∷ xs) = cost-next {k = 0} {j = 0} (cost-number p x) (cost-numbers p xs)
 
 -- the tests of a set, and of the rest
@@ -102,7 +95,7 @@ cost-set p (suc d) xs = cost-tested p xs _ _ (cost-three p d xs {c = walkSet Cod
 -- the rest may end in numbers that no level covers, so it is held to its numbers only where the levels end with them
 cost-rest : (p d left : ℕ) (xs : List ℤ) → Closes d left xs → Cost p xs (walkRest Coder p d left xs) (restTests d left)
 unfolding walkRest restTests
-cost-rest p d zero xs h = subst (λ l. Cost p l (l, []) 0) (sym h) (record { most = omega arith; least = λ g. absurd (omega arith) })
+cost-rest p d zero xs h = subst (λ l. Cost p l (l, []) 0) (sym h) (record { most = omega arith })
 cost-rest p d (suc left) xs h = cost-tested p xs _ _ (cost-three p d xs {c = walkSet Coder p d} (cost-set p d) (cost-rest p (suc d) left (behind (4 ^ suc d) xs) h))
 
 cost-plane : (p d L : ℕ) (xs : List ℤ) → Closes d L (drop (4 ^ suc d) xs) → Cost p xs (walkPlane Coder d L p xs) (setTests d + restTests d L)
@@ -173,9 +166,6 @@ module _ (d L : ℕ) (xs : List ℤ) (h : Closes d L (drop (4 ^ suc d) xs)) wher
       let e : 3 * (t + length xs) ≡ 4 * length xs - 1 = omega (arith, plane-tests d L) in
       let f : n * (3 * (t + length xs)) ≡ 3 * (n * (t + length xs)) = mul-left-comm n 3 (t + length xs) in
       omega (arith, cost-planes n, signs-most n xs, f, ap (λ k. n * k) e)
-
-  pub plane-some : (p : ℕ) → 0 < length xs → length (planesCode d L xs p) < length (planesCode d L xs (suc p))
-  plane-some p g = omega (arith, cost-plane p d L xs h .least g, ap length (code-step d L xs h p), length-append ((walkPlane Coder d L p xs) .1) (planesCode d L xs p))
 
 module _ (k L : ℕ) (xs : List ℤ) (levels : L < k) (square : length xs ≡ 4 ^ k) (numbers-in : numbersIn xs ≡ true) where
   -- A coding has at most n (4 S² - 1) / 3 + S² bits.

@@ -3,10 +3,9 @@ use mathlib.Core.Path.{_≡_, refl, sym, ap, _∙_}
 use mathlib.Core.Bool.{Bool, true, false}
 use mathlib.Core.List.{List, [], map, append-nil}
 use Prim.Native.Nat.{ℕ, zero, suc, _+_, _-_, _^_, _≤_, _<_}
-use native.Mathlib.Nat.{pow-le-pow-right}
 use native.Mathlib.Omega.{arith}
 use lib.Dec.{leb}
-use borrow.Author.Tests.{leb-true, leb-false, le-leb, lt-leb}
+use borrow.Author.Tests.{leb-true, leb-false}
 use lib.IntN.{ℤ}
 use lib.ListN.{length, drop, length-drop}
 use Rattle.paper.specs.Sizes.{numbersIn}
@@ -17,8 +16,8 @@ use Rattle.walk_laws.specs.Together.{tape}
 use Rattle.walk_laws.specs.Plane.{together-plane}
 use Rattle.walk_laws.specs.Planes.{planesCode, code-step}
 use Rattle.walk_laws.specs.Decoded.{decodedFirst, square-closes, start-cleared, coding-decoded}
-use Rattle.walk_laws.specs.Bound.{plane-some}
-use Rattle.walk_laws.specs.Unfinished.{walkDown, down-step, down-ends, planesOver, AllRead, bitsThrough, finished-read, through-first, cut-finished}
+use Rattle.walk_laws.specs.Down.{walkDown, down-step, down-ends}
+use Rattle.walk_laws.specs.Unfinished.{planesOver, AllRead, bitsThrough, finished-read, through-first, last-bit-any, before-last-bit-any}
 
 -- how many bits the coding has up to the last bit of plane q: all but those of planes q - 1 to 0
 unfoldable pub codedThrough : ℕ → ℕ → List ℤ → ℕ → ℕ
@@ -56,29 +55,14 @@ module _ (k L : ℕ) (xs : List ℤ) (levels : L < k) (square : length xs ≡ 4 
       ∙ ap (λ r. r .1 .left) (down-coding d L xs (square-closes k L xs levels square numbers-in) q n h) in
       omega (arith, ap length left, ap length (through-first k L n q code (coding-read q)), length-drop (bitsThrough k L n q code) code)
 
-  -- The first b bits finish planes n - 1 to q exactly if they reach the last bit of plane q.
-  pub coding-finished : (q b : ℕ) → q ≤ n → leb ((decodedFirst k L xs b) .unfinished) q ≡ leb (codedThrough k L xs q) b
+  -- The last bit of plane q is where the coder wrote it.
+  pub coding-through : (q : ℕ) → q ≤ n → bitsThrough k L n q code ≡ codedThrough k L xs q
   unfolding codedThrough
-  coding-finished q b h = cut-finished k L n q code (coding-read q) b ∙ ap (λ c. leb c b) (let e : bitsThrough k L n q code ≡ length code - length (planesCode d L xs q) = omega (arith, coding-left q h) in e)
+  coding-through q h = omega (arith, coding-left q h)
 
-  -- every plane has a bit
-  through-more : (q : ℕ) → q < n → codedThrough k L xs (suc q) < codedThrough k L xs q
-  unfolding codedThrough
-  through-more q h =
-      omega (arith, coding-left (suc q) h, plane-some d L xs (square-closes k L xs levels square numbers-in) q (omega (arith, square, pow-le-pow-right {n = 4} (omega arith) {i = 0} {j = k} (omega arith))))
-
-  -- So after the last bit of plane q exactly q planes are unfinished, and one bit before it q + 1.
-  at-most : (q b : ℕ) → q ≤ n → codedThrough k L xs q ≤ b → (decodedFirst k L xs b) .unfinished ≤ q
-  at-most q b h g = leb-true _ q (coding-finished q b h ∙ le-leb (codedThrough k L xs q) b g)
-
-  more-than : (q b : ℕ) → q ≤ n → b < codedThrough k L xs q → q < (decodedFirst k L xs b) .unfinished
-  more-than q b h g = leb-false _ q (coding-finished q b h ∙ lt-leb (codedThrough k L xs q) b g)
-
+  -- After it exactly q planes are unfinished, and one bit before it q + 1.
   pub last-bit : (q : ℕ) → q ≤ n → (decodedFirst k L xs (codedThrough k L xs q)) .unfinished ≡ q
-  last-bit zero h = omega (arith, at-most 0 (codedThrough k L xs 0) h (omega arith))
-  last-bit (suc q) h = omega (arith, at-most (suc q) (codedThrough k L xs (suc q)) h (omega arith), more-than q (codedThrough k L xs (suc q)) (omega arith) (through-more q h))
+  last-bit q h = rw coding-through at (last-bit-any k L n q code h (coding-read q))
 
   pub before-last-bit : (q : ℕ) → q < n → (decodedFirst k L xs (codedThrough k L xs q - 1)) .unfinished ≡ suc q
-  before-last-bit q h =
-      let m = through-more q h in
-      omega (arith, at-most (suc q) (codedThrough k L xs q - 1) h (omega arith), more-than q (codedThrough k L xs q - 1) (omega arith) (omega arith))
+  before-last-bit q h = rw (coding-through q (omega arith)) at (before-last-bit-any k L n q code h (coding-read q))

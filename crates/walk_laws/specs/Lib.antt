@@ -5,7 +5,9 @@ pub mod Plane
 pub mod Planes
 pub mod Decoded
 pub mod Bound
-pub mod Finished
 pub mod Read
+pub mod Due
+pub mod Down
 pub mod Unfinished
+pub mod Finished
 pub mod Room

@@ -147,7 +147,7 @@ reads-next {m} {n} {K} {J} {f} {g} s e F G =
     reads-both (λ a t. let r = g t in (a ++ r .0, r .1)) F
     (λ _ a h. reads-more J (omega arith) (reads-both (λ b t. (a ++ b, t)) G (λ _ b k. reads-done {P = Length s} (a ++ b) (λ _. length-append a b ∙ omega arith))))
 
-reads-numbers : (p : ℕ) (xs : List ℤ) → Reads (Length (length xs)) (2 * length xs) (walkNumbers Decoder p xs)
+pub reads-numbers : (p : ℕ) (xs : List ℤ) → Reads (Length (length xs)) (2 * length xs) (walkNumbers Decoder p xs)
 unfolding walkNumbers
 reads-numbers p [] = reads-done {P = Length 0} [] (λ _. refl)
 reads-numbers p (x ∷ xs) = reads-more (2 * length (x ∷ xs)) (omega arith) (reads-next (length (x ∷ xs)) (omega arith) (reads-number p x) (reads-numbers p xs))
@@ -167,7 +167,7 @@ walks-tested {K} p xs f F = record { reads = reads-more (suc K + 2 * length xs) 
     go false = walks-done K xs .reads
 
 -- the first n numbers, then the others
-walks-split : {K J : ℕ} (n : ℕ) (xs : List ℤ) {f g : Decodes (List ℤ)} → Walks K (take n xs) f → Walks J (drop n xs) g → Walks (K + J) xs (_next_ Decoder f g)
+pub walks-split : {K J : ℕ} (n : ℕ) (xs : List ℤ) {f g : Decodes (List ℤ)} → Walks K (take n xs) f → Walks J (drop n xs) g → Walks (K + J) xs (_next_ Decoder f g)
 walks-split {K} {J} n xs F G =
     let e : length (take n xs) + length (drop n xs) ≡ length xs = sym (length-append (take n xs) (drop n xs)) ∙ ap length (take-append-drop n xs) in
     record { reads = reads-more (K + J + 2 * length xs) (omega arith) (reads-next (length xs) e (F .reads) (G .reads)) }
@@ -176,12 +176,12 @@ walks-three : {K J : ℕ} (q : ℕ) (xs : List ℤ) (f : List ℤ → Decodes (L
     → Walks (K + (K + (K + J))) xs (_next_ Decoder (f (take q xs)) (_next_ Decoder (f (take q (drop q xs))) (_next_ Decoder (f (take q (drop q (drop q xs)))) g)))
 walks-three q xs f F G = walks-split q xs (F _) (walks-split q (drop q xs) (F _) (walks-split q (drop q (drop q xs)) (F _) G))
 
-walks-set : (p d : ℕ) (xs : List ℤ) → Walks (setTests d) xs (walkSet Decoder p d xs)
+pub walks-set : (p d : ℕ) (xs : List ℤ) → Walks (setTests d) xs (walkSet Decoder p d xs)
 unfolding walkSet setTests
 walks-set p zero xs = walks-tested p xs _ (record { reads = reads-more (0 + 2 * length xs) (omega arith) (reads-numbers p xs) })
 walks-set p (suc d) xs = walks-tested p xs _ (walks-three (4 ^ suc d) xs (walkSet Decoder p d) (walks-set p d) (walks-set p d _))
 
-walks-rest : (p d left : ℕ) (xs : List ℤ) → Walks (restTests d left) xs (walkRest Decoder p d left xs)
+pub walks-rest : (p d left : ℕ) (xs : List ℤ) → Walks (restTests d left) xs (walkRest Decoder p d left xs)
 unfolding walkRest restTests
 walks-rest p d zero xs = walks-done 0 xs
 walks-rest p d (suc left) xs = walks-tested p xs _ (walks-three (4 ^ suc d) xs (walkSet Decoder p d) (walks-set p d) (walks-rest p (suc d) left _))

@@ -2,27 +2,21 @@
 -- every bit of a plane has been read is said of the bits and not of the decoder's flag.
 use mathlib.Core.Path.{_≡_, refl, sym, ap, _∙_}
 use mathlib.Core.Bool.{Bool, true, false}
-use mathlib.Core.List.{List, _++_}
-use Prim.Native.Nat.{ℕ, zero, suc, _+_, _*_, _-_, _^_, _<_, _≤_}
-use native.Mathlib.Nat.{suc-mul}
+use mathlib.Core.List.{List, [], _++_, append-nil}
+use Prim.Native.Nat.{ℕ, zero, suc, _+_, _-_, _^_, _<_, _≤_}
+use native.Mathlib.Nat.{pow-le-pow-right}
 use native.Mathlib.Omega.{arith}
 use lib.Dec.{leb, ltb}
-use borrow.Author.Tests.{leb-true, leb-false, le-leb, lt-leb, ltb-true, ltb-false, lt-ltb, le-ltb}
+use borrow.Author.Tests.{leb-true, leb-false, le-leb, lt-leb, ltb-true, ltb-false}
 use lib.IntN.{ℤ, pos}
 use lib.ListN.{length, take, drop, replicate, length-take, length-append, length-replicate, take-append-drop}
 use lib.Seq.{take-at, take-append-add, drop-append-seam}
-use Rattle.paper.specs.Walk.{Decoder, Tape, walkPlane, walkPlanes, depth, decodeOf}
+use Rattle.paper.specs.Walk.{Decoder, walkPlanes, depth, decodeOf}
 use Rattle.walk_laws.specs.Together.{tape, Decodes}
-use Rattle.walk_laws.specs.Bound.{setTests, restTests}
-use Rattle.walk_laws.specs.Planes.{plane-finished, plane-stopped}
-use Rattle.walk_laws.specs.Read.{enough-is, enough-more, Enough, Missed, Outcome, enough, short, Reads, Length, reads-both, reads-more, reads-done, planeMost, mostRead, walks-plane}
+use Rattle.walk_laws.specs.Read.{Enough, enough-is, enough-more, Missed, Outcome, enough, short, Length, mostRead}
+use Rattle.walk_laws.specs.Down.{walkDown, count-most, none-left, reads-down, missed-is, goes-on}
 
 -- ---- planes n - 1 down to q
--- one plane after the other, whatever the bits
-unfoldable pub walkDown : ℕ → ℕ → ℕ → ℕ → List ℤ → Decodes (List ℤ)
-walkDown d L q zero xs = Decoder .done xs
-walkDown d L q (suc p) xs = elim (leb q p) [ true ↦ Decoder .then (walkPlane Decoder d L p xs) (walkDown d L q p) | false ↦ Decoder .done xs ]
-
 -- the numbers that they make of bits l, and the bits that they leave
 unfoldable pub planesOver : ℕ → ℕ → ℕ → ℕ → List Bool → List ℤ × List Bool
 planesOver k L n q l = let r = walkDown (depth k L) L q n (replicate (4 ^ k) (pos 0)) (tape l false) in (r .0, r .1 .left)
@@ -53,98 +47,41 @@ count-from p (suc n) = go (leb p n) refl (count-from p n)
     go true e ih = omega (arith, leb-true p n e)
     go false e ih = omega (arith, leb-false p n e)
 
--- ---- the walk and the count
-count-most : (d L n : ℕ) (xs : List ℤ) (t : Tape) → (walkPlanes Decoder d L n xs t) .0 .1 ≤ n
-unfolding walkPlanes
-count-most d L zero xs t = omega arith
-count-most d L (suc p) xs t = go ((walkPlane Decoder d L p xs t) .1 .missed) (count-most d L p)
-  where
-    go : (m : Bool) → ((ys : List ℤ) (t : Tape) → (walkPlanes Decoder d L p ys t) .0 .1 ≤ p)
-        → ((elim m as (λ _. Decodes (List ℤ × ℕ)) [ true ↦ Decoder .done ((walkPlane Decoder d L p xs t) .0, suc p) | false ↦ walkPlanes Decoder d L p ((walkPlane Decoder d L p xs t) .0) ]) ((walkPlane Decoder d L p xs t) .1)) .0 .1 ≤ suc p
-    go true ih = omega arith
-    go false ih = omega (arith, ih ((walkPlane Decoder d L p xs t) .0) ((walkPlane Decoder d L p xs t) .1))
-
-module _ (d L q p : ℕ) (xs : List ℤ) where
-  pub down-step : leb q p ≡ true → walkDown d L q (suc p) xs ≡ Decoder .then (walkPlane Decoder d L p xs) (walkDown d L q p)
-  unfolding walkDown
-  down-step e = rw (e, walkDown)
-
-  pub down-ends : leb q p ≡ false → walkDown d L q (suc p) xs ≡ Decoder .done xs
-  unfolding walkDown
-  down-ends e = rw (e, walkDown)
-
-module _ (d L N : ℕ) where
-  reads-down : (q n : ℕ) (xs : List ℤ) → length xs ≡ N → Reads (Length N) (n * planeMost d L N) (walkDown d L q n xs)
-  reads-down q zero xs h = unfold walkDown in (reads-more (0 * planeMost d L N) (omega arith) (reads-done {P = Length N} xs (λ _. h)))
-  reads-down q (suc p) xs h = go (leb q p) refl (reads-down q p)
-    where
-      go : (b : Bool) → leb q p ≡ b → ((ys : List ℤ) → length ys ≡ N → Reads (Length N) (p * planeMost d L N) (walkDown d L q p ys)) → Reads (Length N) (suc p * planeMost d L N) (walkDown d L q (suc p) xs)
-      go true e ih =
-          rw (down-step d L q p xs e)
-          (reads-more (suc p * planeMost d L N) (omega (arith, suc-mul p (planeMost d L N))) (reads-both (walkDown d L q p) (walks-plane d L p xs .reads) (λ _ ys k. ih ys (k ∙ h))))
-      go false e ih = rw (down-ends d L q p xs e) (reads-more (suc p * planeMost d L N) (omega arith) (reads-done {P = Length N} xs (λ _. h)))
-
-  -- a bit is missed in planes n - 1 to q exactly if more than q planes are unfinished
-  missed-is : (q n : ℕ) (xs : List ℤ) → length xs ≡ N → (l : List Bool) → (walkDown d L q n xs (tape l false)) .1 .missed ≡ ltb q ((walkPlanes Decoder d L n xs (tape l false)) .0 .1)
-  missed-is q zero xs h l = unfold walkDown walkPlanes in (sym (le-ltb q 0 (omega arith)))
-  missed-is q (suc p) xs h l = go (leb q p) refl (walks-plane d L p xs .reads .from l) (missed-is q p)
-    where
-      go : (b : Bool) → leb q p ≡ b → Outcome (Length (length xs)) (setTests d + restTests d L + 2 * length xs) (walkPlane Decoder d L p xs) l
-          → ((ys : List ℤ) → length ys ≡ N → (l : List Bool) → (walkDown d L q p ys (tape l false)) .1 .missed ≡ ltb q ((walkPlanes Decoder d L p ys (tape l false)) .0 .1))
-          → (walkDown d L q (suc p) xs (tape l false)) .1 .missed ≡ ltb q ((walkPlanes Decoder d L (suc p) xs (tape l false)) .0 .1)
-      go true e (enough E) ih =
-          rw (down-step d L q p xs e, plane-finished d L p xs (tape l false) (enough-is E))
-          (ap (λ r. (walkDown d L q p (r .0) (r .1)) .1 .missed) (enough-is E) ∙ ih (E .answer) (E .known ∙ h) (E .rest))
-      go true e (short g M) ih =
-          rw (down-step d L q p xs e, plane-stopped d L p xs (tape l false) (M .is))
-          (ap (λ r. (walkDown d L q p (r .0) (r .1)) .1 .missed) (M .is) ∙ ap (λ r. r .1 .missed) (reads-down q p (M .answer) (M .known ∙ h) .over .is) ∙ sym (lt-ltb q (suc p) (omega (arith, leb-true q p e))))
-      go false e O ih = rw (down-ends d L q p xs e) (sym (le-ltb q _ (omega (arith, leb-false q p e, count-most d L (suc p) xs (tape l false)))))
-
-  -- where none is missed, planes q - 1 to 0 go on from there
-  goes-on : (q n : ℕ) (xs : List ℤ) → length xs ≡ N → (l : List Bool) → q ≤ n → (walkDown d L q n xs (tape l false)) .1 .missed ≡ false
-      → walkPlanes Decoder d L n xs (tape l false) ≡ (let r = walkDown d L q n xs (tape l false) in walkPlanes Decoder d L q (r .0) (r .1))
-  goes-on q zero xs h l g m = unfold walkDown in (λ i. walkPlanes Decoder d L (let e : 0 ≡ q = omega arith in e i) xs (tape l false))
-  goes-on q (suc p) xs h l g m = go (leb q p) refl (walks-plane d L p xs .reads .from l) (goes-on q p)
-    where
-      go : (b : Bool) → leb q p ≡ b → Outcome (Length (length xs)) (setTests d + restTests d L + 2 * length xs) (walkPlane Decoder d L p xs) l
-          → ((ys : List ℤ) → length ys ≡ N → (l : List Bool) → q ≤ p → (walkDown d L q p ys (tape l false)) .1 .missed ≡ false
-          → walkPlanes Decoder d L p ys (tape l false) ≡ (let r = walkDown d L q p ys (tape l false) in walkPlanes Decoder d L q (r .0) (r .1)))
-          → walkPlanes Decoder d L (suc p) xs (tape l false) ≡ (let r = walkDown d L q (suc p) xs (tape l false) in walkPlanes Decoder d L q (r .0) (r .1))
-      go true e (enough E) ih =
-          let s : walkDown d L q (suc p) xs (tape l false) ≡ walkDown d L q p (E .answer) (tape (E .rest) false) = ap (λ f. f (tape l false)) (down-step d L q p xs e) ∙ ap (λ r. walkDown d L q p (r .0) (r .1)) (enough-is E) in
-          rw (s, plane-finished d L p xs (tape l false) (enough-is E)) (ih (E .answer) (E .known ∙ h) (E .rest) (leb-true q p e) (rw s at m))
-      go true e (short g M) ih =
-          absurd (omega (arith, leb-true q p e, ltb-false q _ (sym (missed-is q (suc p) xs h l) ∙ m), ap (λ r. r .0 .1) (plane-stopped d L p xs (tape l false) (M .is))))
-      go false e O ih = rw (down-ends d L q p xs e) (λ i. walkPlanes Decoder d L (let f : suc p ≡ q = omega (arith, leb-false q p e) in f i) xs (tape l false))
-
 module _ (k L n : ℕ) where
   abbrev start : List ℤ
   start = replicate (4 ^ k) (pos 0)
 
+  abbrev down : ℕ → Decodes (List ℤ)
+  down q = walkDown (depth k L) L q n start
+
   -- the bits l have all that planes n - 1 to q take
   abbrev Has : ℕ → List Bool → Type 0
-  Has q l = Enough (Length (4 ^ k)) (mostRead k L n) (walkDown (depth k L) L q n start) l
+  Has q l = Enough (Length (4 ^ k)) (mostRead k L n) (down q) l
+
+  -- they have, or a bit is missed
+  abbrev HasOrNot : ℕ → List Bool → Type 0
+  HasOrNot q l = Outcome (Length (4 ^ k)) (mostRead k L n) (down q) l
 
   abbrev unfinished : List Bool → ℕ
   unfinished l = (decodeOf k L n l) .unfinished
 
-  outcome : (q : ℕ) (l : List Bool) → Outcome (Length (4 ^ k)) (mostRead k L n) (walkDown (depth k L) L q n start) l
+  outcome : (q : ℕ) (l : List Bool) → HasOrNot q l
   outcome q l = reads-down (depth k L) L (4 ^ k) q n start (length-replicate (4 ^ k) (pos 0)) .from l
 
-  missed-more : (q : ℕ) (l : List Bool) → (walkDown (depth k L) L q n start (tape l false)) .1 .missed ≡ ltb q (unfinished l)
+  missed-more : (q : ℕ) (l : List Bool) → (down q (tape l false)) .1 .missed ≡ ltb q (unfinished l)
   unfolding decodeOf
   missed-more q l = missed-is (depth k L) L (4 ^ k) q n start (length-replicate (4 ^ k) (pos 0)) l
 
   has-finished : (q : ℕ) (l : List Bool) → Has q l → unfinished l ≤ q
   has-finished q l E = ltb-false q (unfinished l) (sym (missed-more q l) ∙ ap (λ r. r .1 .missed) (enough-is E))
 
-  short-unfinished : (q : ℕ) (l : List Bool) → Missed (Length (4 ^ k)) (walkDown (depth k L) L q n start) (tape l false) → q < unfinished l
+  short-unfinished : (q : ℕ) (l : List Bool) → Missed (Length (4 ^ k)) (down q) (tape l false) → q < unfinished l
   short-unfinished q l M = ltb-true q (unfinished l) (sym (missed-more q l) ∙ ap (λ r. r .1 .missed) (M .is))
 
   finished-has : (q : ℕ) (l : List Bool) → unfinished l ≤ q → Has q l
   finished-has q l h = go (outcome q l)
     where
-      go : Outcome (Length (4 ^ k)) (mostRead k L n) (walkDown (depth k L) L q n start) l → Has q l
+      go : HasOrNot q l → Has q l
       go (enough E) = E
       go (short g M) = absurd (omega (arith, short-unfinished q l M))
 
@@ -152,7 +89,7 @@ module _ (k L n : ℕ) where
   most-has : (q : ℕ) (l : List Bool) → mostRead k L n ≤ length l → Has q l
   most-has q l h = go (outcome q l)
     where
-      go : Outcome (Length (4 ^ k)) (mostRead k L n) (walkDown (depth k L) L q n start) l → Has q l
+      go : HasOrNot q l → Has q l
       go (enough E) = E
       go (short g M) = absurd (omega arith)
 
@@ -186,12 +123,20 @@ module _ (k L n : ℕ) where
         is = E .is;
       }
 
-      go : (o : Bool) → leb c b ≡ o → Outcome (Length (4 ^ k)) (mostRead k L n) (walkDown (depth k L) L q n start) (take b m) → leb (unfinished (take b m)) q ≡ o
+      go : (o : Bool) → leb c b ≡ o → HasOrNot q (take b m) → leb (unfinished (take b m)) q ≡ o
       go true e O = le-leb (unfinished (take b m)) q (has-finished q (take b m) (cut (leb-true c b e)))
       go false e (enough D) =
           let same : bitsThrough k L n q m ≡ length (D .taken) = ap (bitsThrough k L n q) (sym (take-append-drop b m)) ∙ has-through q (take b m ++ drop b m) (enough-more (drop b m) D) in
           absurd (omega (arith, same, has-through q m E, leb-false c b e, ap length (D .parts), length-append (D .taken) (D .rest), length-take b m))
       go false e (short g M) = lt-leb (unfinished (take b m)) q (short-unfinished q (take b m) M)
+
+  -- after the last bit of these planes
+  has-last : (q : ℕ) (m : List Bool) → q ≤ n → (E : Has q m) → unfinished (E .taken) ≡ q
+  unfolding decodeOf
+  has-last q m h E =
+      let s : down q (tape (E .taken) false) ≡ (E .answer, tape [] false) = ap (λ l. down q (tape l false)) (sym (append-nil (E .taken))) ∙ E .is [] in
+      ap (λ r. r .0 .1) (goes-on (depth k L) L (4 ^ k) q n start (length-replicate (4 ^ k) (pos 0)) (E .taken) h (ap (λ r. r .1 .missed) s) ∙ ap (λ r. walkPlanes Decoder (depth k L) L q (r .0) (r .1)) s)
+      ∙ none-left (depth k L) L q (E .answer) (omega (arith, E .known, pow-le-pow-right {n = 4} (omega arith) {i = 0} {j = k} (omega arith)))
 
   -- ---- any bits
   -- Bits as many as decoding can read have every bit of every plane: so any bits are a first part of such bits.
@@ -237,6 +182,24 @@ module _ (k L n : ℕ) where
   -- Where they have not all been read, all of l is read (`read-all`), and a further bit is due.
   pub unfinished-due : (q : ℕ) (l : List Bool) → q < unfinished l → (r : List Bool) → AllRead k L n q (l ++ r) → length l < bitsThrough k L n q (l ++ r)
   unfinished-due q l h r a = leb-false (bitsThrough k L n q (l ++ r)) (length l) (sym (first-part q l r a) ∙ lt-leb (unfinished l) q h)
+
+  -- After the last bit of plane q exactly q planes are unfinished, and one bit before it q + 1.
+  pub last-bit-any : (q : ℕ) (m : List Bool) → q ≤ n → AllRead k L n q m → unfinished (take (bitsThrough k L n q m) m) ≡ q
+  last-bit-any q m h a =
+      let E = finished-has q m (read-finished q m a) in
+      ap unfinished ((λ i. take (has-through q m E i) (E .parts i)) ∙ take-at (E .taken) (E .rest) (length (E .taken)) refl) ∙ has-last q m h E
+
+  pub before-last-bit-any : (q : ℕ) (m : List Bool) → q < n → AllRead k L n q m → unfinished (take (bitsThrough k L n q m - 1) m) ≡ suc q
+  before-last-bit-any q m h a =
+      let c = bitsThrough k L n q m in
+      let b = bitsThrough k L n (suc q) m in
+      let above = finished-read (suc q) m (omega (arith, read-finished q m a)) in
+      let less : b < c = leb-false c b (sym (cut-finished q m a b) ∙ lt-leb (unfinished (take b m)) q (omega (arith, last-bit-any (suc q) m h above))) in
+      omega (
+        arith,
+        leb-true (unfinished (take (c - 1) m)) (suc q) (cut-finished (suc q) m above (c - 1) ∙ le-leb b (c - 1) (omega arith)),
+        leb-false (unfinished (take (c - 1) m)) q (cut-finished q m a (c - 1) ∙ lt-leb c (c - 1) (omega arith)),
+      )
 
   -- So p is n less the planes whose every bit has been read, whatever bits make l whole.
   pub unfinished-true : (l r : List Bool) → AllRead k L n 0 (l ++ r) → unfinished l ≡ n - planesRead k L n (l ++ r) (length l)
