@@ -31,21 +31,14 @@ abbrev forward-in-below : ℕ → In 3 forward-in-kinds.ps
 forward-in-below t =
     and 3 forward-in-kinds.ps (falls 3 forward-in-kinds.ps _<_ μ-forward-in t) forward-in.Pre
 
-forward-in-returns : (t : ℕ) → forward-in-lts.Need-returns (
-  level-reads.Asked,
-  level-reads.Learnt,
-  forward-in-below t,
-  forward-in.Post,
-) (forward-in-at t) forward-in.Post
+abbrev claims : ℕ → forward-in-lts.Claims
+claims t = (level-reads.Asked, level-reads.Learnt, forward-in-below t, forward-in.Post)
+
+forward-in-returns : (t : ℕ) → forward-in-lts.Need-returns (claims t) (forward-in-at t) forward-in.Post
 unfolding levelsForward
 forward-in-returns t c = rw (c .if1 .taken)
 
-forward-in-level-requires : (t : ℕ) → forward-in-lts.Need-level-requires (
-  level-reads.Asked,
-  level-reads.Learnt,
-  forward-in-below t,
-  forward-in.Post,
-) (forward-in-at t) forward-in.Post
+forward-in-level-requires : (t : ℕ) → forward-in-lts.Need-level-requires (claims t) (forward-in-at t) forward-in.Post
 unfolding way
 forward-in-level-requires t c κs =
     let s = c .before .before .before .before in
@@ -53,45 +46,19 @@ forward-in-level-requires t c κs =
     let f = forward-fits fiveThree (s .args .k) (s .args .levels) (s .args .xs .now) (omega arith) (omega arith) (p .1 .1 .1 .0) in
     (p .0, (omega arith, (p .1 .1 .0, (f .0, (f .1, (p .1 .1 .1 .1 .0, p .1 .1 .1 .1 .1))))))
 
-forward-in-sub-forward-in : (t : ℕ) → forward-in-lts.Need-sub-forward-in (
-  level-reads.Asked,
-  level-reads.Learnt,
-  forward-in-below t,
-  forward-in.Post,
-) (forward-in-at t) forward-in.Post
+forward-in-sub-forward-in : (t : ℕ) → forward-in-lts.Need-sub-forward-in (claims t) (forward-in-at t) forward-in.Post
 forward-in-sub-forward-in t c = omega arith
 
-forward-in-sub-forward-in-2 : (t : ℕ) → forward-in-lts.Need-sub-forward-in-2 (
-  level-reads.Asked,
-  level-reads.Learnt,
-  forward-in-below t,
-  forward-in.Post,
-) (forward-in-at t) forward-in.Post
+forward-in-sub-forward-in-2 : (t : ℕ) → forward-in-lts.Need-sub-forward-in-2 (claims t) (forward-in-at t) forward-in.Post
 forward-in-sub-forward-in-2 t c = omega arith
 
-forward-in-slice-relend-prefix-forward-in :
-    (t : ℕ) → forward-in-lts.Need-slice-relend-prefix-forward-in (
-      level-reads.Asked,
-      level-reads.Learnt,
-      forward-in-below t,
-      forward-in.Post,
-    ) (forward-in-at t) forward-in.Post
+forward-in-slice-relend-prefix-forward-in : (t : ℕ) → forward-in-lts.Need-slice-relend-prefix-forward-in (claims t) (forward-in-at t) forward-in.Post
 forward-in-slice-relend-prefix-forward-in t c = omega arith
 
-forward-in-slice-aggregate-forward-in : (t : ℕ) → forward-in-lts.Need-slice-aggregate-forward-in (
-  level-reads.Asked,
-  level-reads.Learnt,
-  forward-in-below t,
-  forward-in.Post,
-) (forward-in-at t) forward-in.Post
+forward-in-slice-aggregate-forward-in : (t : ℕ) → forward-in-lts.Need-slice-aggregate-forward-in (claims t) (forward-in-at t) forward-in.Post
 forward-in-slice-aggregate-forward-in t c = sym (length-take-le _ _ (omega arith))
 
-forward-in-forward-in-requires : (t : ℕ) → forward-in-lts.Need-forward-in-requires (
-  level-reads.Asked,
-  level-reads.Learnt,
-  forward-in-below t,
-  forward-in.Post,
-) (forward-in-at t) forward-in.Post
+forward-in-forward-in-requires : (t : ℕ) → forward-in-lts.Need-forward-in-requires (claims t) (forward-in-at t) forward-in.Post
 unfolding levelWay
 forward-in-forward-in-requires t c κs =
     let v = c .before .before .before .before .before .before in
@@ -103,36 +70,16 @@ forward-in-forward-in-requires t c κs =
     let q : length (s .args .xs .now) / 4 ≡ 4 ^ (k - 1) = quarter k (length (s .args .xs .now)) (omega arith) (p .1 .1 .0) in
     (omega arith, (omega arith, (omega arith, (part _ _ _ q (omega arith), (forward-left fiveThree k (s .args .levels) (s .args .xs .now) (omega arith) (omega arith) (p .1 .1 .1 .0) (length (s .args .xs .now) / 4) _ e, (omega (arith, half-le k), omega (arith, half-le k)))))))
 
-forward-in-same-length : (t : ℕ) → forward-in-lts.Need-same-length (
-  level-reads.Asked,
-  level-reads.Learnt,
-  forward-in-below t,
-  forward-in.Post,
-) (forward-in-at t) forward-in.Post
+forward-in-same-length : (t : ℕ) → forward-in-lts.Need-same-length (claims t) (forward-in-at t) forward-in.Post
 forward-in-same-length t c = omega arith
 
-forward-in-same-length-2 : (t : ℕ) → forward-in-lts.Need-same-length-2 (
-  level-reads.Asked,
-  level-reads.Learnt,
-  forward-in-below t,
-  forward-in.Post,
-) (forward-in-at t) forward-in.Post
+forward-in-same-length-2 : (t : ℕ) → forward-in-lts.Need-same-length-2 (claims t) (forward-in-at t) forward-in.Post
 forward-in-same-length-2 t c = omega arith
 
-forward-in-same-length-3 : (t : ℕ) → forward-in-lts.Need-same-length-3 (
-  level-reads.Asked,
-  level-reads.Learnt,
-  forward-in-below t,
-  forward-in.Post,
-) (forward-in-at t) forward-in.Post
+forward-in-same-length-3 : (t : ℕ) → forward-in-lts.Need-same-length-3 (claims t) (forward-in-at t) forward-in.Post
 forward-in-same-length-3 t c = omega arith
 
-forward-in-returns-2 : (t : ℕ) → forward-in-lts.Need-returns-2 (
-  level-reads.Asked,
-  level-reads.Learnt,
-  forward-in-below t,
-  forward-in.Post,
-) (forward-in-at t) forward-in.Post
+forward-in-returns-2 : (t : ℕ) → forward-in-lts.Need-returns-2 (claims t) (forward-in-at t) forward-in.Post
 unfolding levelWay
 forward-in-returns-2 t c =
     let w = c .before .before .before in
@@ -143,12 +90,8 @@ forward-in-returns-2 t c =
     forward-is lineForward k (s .args .levels) (s .args .xs .now) _ _ _ (omega arith) q (v .level .ensures) (w .forward-in .ensures)
 
 pub +forward-in-spec : {M : Type 1} → statement M
-+forward-in-spec = close μ-forward-in λ t. forward-in-lts.spec (
-  level-reads.Asked,
-  level-reads.Learnt,
-  forward-in-below t,
-  forward-in.Post,
-)
++forward-in-spec = close μ-forward-in λ t. forward-in-lts.spec
+    (claims t)
     (forward-in-at t)
     forward-in.Post
     (forward-in-returns t)
