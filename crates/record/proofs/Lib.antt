@@ -1,4 +1,4 @@
 -- Laws that the proofs of this crate share.
-pub mod Table
+pub mod RefusalRows
 pub mod Writing
 pub mod Reading

@@ -15,12 +15,12 @@ use Rattle.paper.specs.Jobs.{readingRefusal, readRun, readingJob}
 use Rattle.sizes.proofs.Ranges.{both-first, both-second}
 use Rattle.sizes.proofs.Refusals.{row-passed, refused-is, done-is}
 use Rattle.bits.proofs.Packing.{Bytes}
-use Rattle.record_laws.specs.Turn.{few-kept, whole-kept, most-kept, first-kept, first-refused}
-use Rattle.record.proofs.Table.{two-rows, rows-stand}
+use Rattle.record_laws.specs.Turn.{kept-numbered, kept-within, bits-kept-most, block-0-passes, block-0-refused}
+use Rattle.record.proofs.RefusalRows.{rows-leave, rows-stand}
 
 -- rows 6 and 7, as they are judged from the lengths
-abbrev pub lent : ℕ → List ℕ → ℕ → ℕ
-lent blocks label room = unless 6 (leb blockBytes blocks && leb (payloadBytes payloadStart * (blocks / blockBytes)) room) (unless 7 (isLabel label) 0)
+abbrev pub lentRefusal : ℕ → List ℕ → ℕ → ℕ
+lentRefusal blocks label room = unless 6 (leb blockBytes blocks && leb (payloadBytes payloadStart * (blocks / blockBytes)) room) (unless 7 (isLabel label) 0)
 
 -- the kept blocks as the functions that read and copy them ask for
 pub record Usable (s : List ℕ) (kept : ℕ) : Type 0 where
@@ -29,17 +29,17 @@ pub record Usable (s : List ℕ) (kept : ℕ) : Type 0 where
   pub most : bitsKept payloadStart s kept ≤ payloadBits payloadStart * kept
 
 module _ (s label room : List ℕ) where
-  pub lent-refused : {r : ℕ} → r ≡ lent (length s) label (length room) → 0 < r → readingRefusal s label room ≡ r
+  pub lent-refused : {r : ℕ} → r ≡ lentRefusal (length s) label (length room) → 0 < r → readingRefusal s label room ≡ r
   unfolding readingRefusal
   lent-refused {r} e h = rows-stand 5 6 (leb blockBytes (length s) && leb (payloadBytes payloadStart * wholeBlocks s) (length room)) (isLabel label) (refusalAt payloadStart s label 0) (omega arith) ∙ sym e
 
-  module _ (passed : lent (length s) label (length room) ≡ 0) where
+  module _ (passed : lentRefusal (length s) label (length room) ≡ 0) where
     pub lent-passed : readingRefusal s label room ≡ refusalAt payloadStart s label 0
     unfolding readingRefusal
-    lent-passed = two-rows 5 6 (leb blockBytes (length s) && leb (payloadBytes payloadStart * wholeBlocks s) (length room)) (isLabel label) (refusalAt payloadStart s label 0) passed
+    lent-passed = rows-leave 5 6 (leb blockBytes (length s) && leb (payloadBytes payloadStart * wholeBlocks s) (length room)) (isLabel label) (refusalAt payloadStart s label 0) passed
 
-    pub lent-both : (blockBytes ≤ length s) × (payloadBytes payloadStart * wholeBlocks s ≤ length room)
-    lent-both =
+    pub lent-holds : (blockBytes ≤ length s) × (payloadBytes payloadStart * wholeBlocks s ≤ length room)
+    lent-holds =
         let both = row-passed 5 (leb blockBytes (length s) && leb (payloadBytes payloadStart * wholeBlocks s) (length room)) (unless 7 (isLabel label) 0) passed in
         (leb-true _ _ (both-first (leb blockBytes (length s)) (leb (payloadBytes payloadStart * wholeBlocks s) (length room)) both), leb-true _ _ (both-second (leb blockBytes (length s)) (leb (payloadBytes payloadStart * wholeBlocks s) (length room)) both))
 
@@ -51,14 +51,14 @@ module _ (s label room : List ℕ) where
     kept-is : (runOf payloadStart s label) .kept ≡ kept
     kept-is = ap (λ r. r .kept) run
 
-    pub usable : Bytes s → Usable s kept
-    usable w = record { few = rw (← kept-is) (few-kept payloadStart s label w); whole = rw (← kept-is) (whole-kept payloadStart s label); most = rw (← kept-is) (most-kept payloadStart s label) }
+    pub kept-usable : Bytes s → Usable s kept
+    kept-usable w = record { few = rw (← kept-is) (kept-numbered payloadStart s label w); whole = rw (← kept-is) (kept-within payloadStart s label); most = rw (← kept-is) (bits-kept-most payloadStart s label) }
 
-    module _ (passed : lent (length s) label (length room) ≡ 0) where
+    module _ (passed : lentRefusal (length s) label (length room) ≡ 0) where
       -- nothing is kept: the run ended with block 0's number
-      pub none-kept : kept ≡ 0 → (readingRefusal s label room ≡ ended) × (0 < ended)
-      none-kept z =
-          let (first, fails) = first-refused payloadStart s label (omega (arith, lent-both passed .0)) (kept-is ∙ z) in
+      pub none-kept-refused : kept ≡ 0 → (readingRefusal s label room ≡ ended) × (0 < ended)
+      none-kept-refused z =
+          let (first, fails) = block-0-refused payloadStart s label (omega (arith, lent-holds passed .0)) (kept-is ∙ z) in
           let e : (runOf payloadStart s label) .ended ≡ ended = ap (λ r. r .ended) run in
           let f : ended ≡ 0 → ⊥ = λ g. fails (e ∙ g) in
           (lent-passed passed ∙ first ∙ e, omega arith)
@@ -68,6 +68,6 @@ module _ (s label room : List ℕ) where
       unfolding readingJob
       read-done bits exit h b e =
           let some : 0 < (runOf payloadStart s label) .kept = omega (arith, kept-is) in
-          done-is _ _ _ (lent-passed passed ∙ first-kept payloadStart s label some)
+          done-is _ _ _ (lent-passed passed ∙ block-0-passes payloadStart s label some)
           ∙ ap (readRun s room) run
           ∙ (λ t. record { refusal = 0; k = byteAt s 1; L = byteAt s 2; n = byteAt s 3; blocks = kept; bits = sym b t; ended = ended; room = sym e t })

@@ -14,7 +14,7 @@ use Rattle.paper.specs.Record.{blocksFor, blockOf, recordOf}
 use Rattle.paper.specs.Jobs.{sizesRefusal, writingRefusal, writingJob}
 use Rattle.sizes.proofs.Refusals.{refused-is}
 use Rattle.record_laws.specs.ReadBack.{length-record}
-use Rattle.record_laws.specs.BothJobs.{Accepted, most-bits, length-given, writable, written}
+use Rattle.record_laws.specs.BothJobs.{Accepted, most-bits, bits-given, record-writable, room-written}
 
 module _ (k L n : ℕ) (label bytes : List ℕ) (b : ℕ) (room : List ℕ) where
   -- the rows, as they are judged from the lengths alone
@@ -33,12 +33,12 @@ module _ (k L n : ℕ) (label bytes : List ℕ) (b : ℕ) (room : List ℕ) wher
     unfolding recordOf
     write-done blocks exit e f =
         let l = take b (bits bytes) in
-        let given : length l ≡ b = length-given k L n label bytes b room passed in
-        let all : length (joined (blocksFor (length l)) (blockOf payloadStart [] k L n label l)) ≡ blockBytes * blocksFor (length l) = length-record payloadStart [] k L n label l (writable k L n label bytes b room passed) in
+        let given : length l ≡ b = bits-given k L n label bytes b room passed in
+        let all : length (joined (blocksFor (length l)) (blockOf payloadStart [] k L n label l)) ≡ blockBytes * blocksFor (length l) = length-record payloadStart [] k L n label l (record-writable k L n label bytes b room passed) in
         let laid : over (joined (blocksFor (length l)) (blockOf payloadStart [] k L n label l)) room ≡ exit =
         ap (λ a. joined (blocksFor (length l)) (blockOf payloadStart [] k L n label l) ++ drop a room) all ∙ ap (λ j. joined j (blockOf payloadStart [] k L n label l) ++ drop (blockBytes * j) room) (ap blocksFor given ∙ sym e) ∙ sym f in
-        written k L n label bytes b room passed ∙ (λ t. record { refusal = 0; blocks = sym e t; room = laid t })
+        room-written k L n label bytes b room passed ∙ (λ t. record { refusal = 0; blocks = sym e t; room = laid t })
 
 -- the blocks of an accepted call can be counted
-pub few-blocks : {k L n b : ℕ} {label bytes room : List ℕ} → Accepted k L n label bytes b room → b ≤ payloadBits payloadStart * numberedBlocks
-few-blocks {k} {L} {n} a = omega (arith, a .bound, most-bits k n (a .size) (a .planes))
+pub bits-numbered : {k L n b : ℕ} {label bytes room : List ℕ} → Accepted k L n label bytes b room → b ≤ payloadBits payloadStart * numberedBlocks
+bits-numbered {k} {L} {n} a = omega (arith, a .bound, most-bits k n (a .size) (a .planes))

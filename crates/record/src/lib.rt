@@ -61,9 +61,9 @@ fn write_refusal(
 ) -> u32
     ensures { λ r. ⌜ r ≡ sizesRefusal k levels (unless 5 (planesIn n) (unless 6 (leb b (8 * bytes) && leb b (mostBits k n) && leb (blockBytes * blocksFor b) room) (unless 7 (isLabel (now (label .entry))) 0))) ⌝ }
 {
-    let refusal = sizes::sizes_refusal(k, levels);
-    if refusal > 0 {
-        return refusal;
+    let first = sizes::sizes_refusal(k, levels);
+    if first > 0 {
+        return first;
     }
     if !sizes::planes_in(n) {
         return 5;
@@ -154,9 +154,9 @@ fn refused(refusal: u32) -> Kept
 pub fn read(blocks: &[u8], label: &[u8], room: &mut [u8]) -> Kept
     ensures { λ r. ⌜ readingJob (now (blocks .entry)) (now (label .entry)) (now (room .entry)) ≡ record { refusal = r .refusal; k = r .k; L = r .levels; n = r .n; blocks = r .blocks; bits = r .bits; ended = r .ended; room = now (room .exit) } ⌝ }
 {
-    let refusal = rows(holds(blocks.len(), room.len()), fields::is_label(label));
-    if refusal > 0 {
-        return refused(refusal);
+    let lent = rows(holds(blocks.len(), room.len()), fields::is_label(label));
+    if lent > 0 {
+        return refused(lent);
     }
     let run = reader::longest_run(blocks, label);
     if run.kept == 0 {

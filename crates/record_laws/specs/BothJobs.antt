@@ -41,9 +41,9 @@ pub record Accepted (k L n : ℕ) (label bytes : List ℕ) (b : ℕ) (room : Lis
   pub labelled : isLabel label ≡ true
 
 module _ (k L n : ℕ) (label bytes : List ℕ) (b : ℕ) (room : List ℕ) (passed : writingRefusal k L n label bytes b room ≡ 0) where
-  pub accepted : Accepted k L n label bytes b room
+  pub write-accepted : Accepted k L n label bytes b room
   unfolding writingRefusal
-  accepted =
+  write-accepted =
       let bytes-hold = leb b (8 * length bytes) in
       let walk-has = leb b (mostBits k n) in
       let room-holds = leb (blockBytes * blocksFor b) (length room) in
@@ -62,31 +62,31 @@ module _ (k L n : ℕ) (label bytes : List ℕ) (b : ℕ) (room : List ℕ) (pas
         labelled = row-passed 6 (isLabel label) 0 seven;
       }
 
-  pub length-given : length (take b (bits bytes)) ≡ b
-  length-given = length-take-le b (bits bytes) (omega (arith, accepted .lent, bits-length bytes))
+  pub bits-given : length (take b (bits bytes)) ≡ b
+  bits-given = length-take-le b (bits bytes) (omega (arith, write-accepted .lent, bits-length bytes))
 
-  pub writable : Writable payloadStart [] k L n label (take b (bits bytes))
-  writable = record {
+  pub record-writable : Writable payloadStart [] k L n label (take b (bits bytes))
+  record-writable = record {
     layout = first-edition;
-    size = accepted .size;
-    levels = accepted .levels;
-    planes = accepted .planes;
-    labelled = accepted .labelled;
-    few = omega (arith, length-given, accepted .bound, most-bits k n (accepted .size) (accepted .planes));
+    size = write-accepted .size;
+    levels = write-accepted .levels;
+    planes = write-accepted .planes;
+    labelled = write-accepted .labelled;
+    few = omega (arith, bits-given, write-accepted .bound, most-bits k n (write-accepted .size) (write-accepted .planes));
   }
 
   -- the record stands at the front of the room
-  pub written : writingJob k L n label bytes b room ≡ record { refusal = 0; blocks = blocksFor b; room = over (recordOf payloadStart [] k L n label (take b (bits bytes))) room }
+  pub room-written : writingJob k L n label bytes b room ≡ record { refusal = 0; blocks = blocksFor b; room = over (recordOf payloadStart [] k L n label (take b (bits bytes))) room }
   unfolding writingJob
-  written = done-is _ _ _ passed
+  room-written = done-is _ _ _ passed
 
   -- any first part of it with a whole block, read with its label into enough room, gives back what was written, as much as its whole blocks hold
   pub read-written : (m : ℕ) (lent : List ℕ) → blockBytes ≤ m → m ≤ blockBytes * blocksFor b → payloadBytes payloadStart * (m / blockBytes) ≤ length lent
       → readingJob (take m ((writingJob k L n label bytes b room) .room)) label lent ≡ readBack k L n (take b (bits bytes)) lent (m / blockBytes)
   read-written m lent h g r =
       let l = take b (bits bytes) in
-      let whole : length (recordOf payloadStart [] k L n label l) ≡ blockBytes * blocksFor b = length-record payloadStart [] k L n label l writable ∙ ap (λ c. blockBytes * blocksFor c) length-given in
+      let whole : length (recordOf payloadStart [] k L n label l) ≡ blockBytes * blocksFor b = length-record payloadStart [] k L n label l record-writable ∙ ap (λ c. blockBytes * blocksFor c) bits-given in
       let front : take m (over (recordOf payloadStart [] k L n label l) room) ≡ take m (recordOf payloadStart [] k L n label l) = take-append-le m (recordOf payloadStart [] k L n label l) _ (omega arith) in
-      let blocks : min (m / blockBytes) (blocksFor (length l)) ≡ m / blockBytes = omega (arith, ap blocksFor length-given) in
-      ap (λ w. readingJob (take m (w .room)) label lent) written ∙ ap (λ s. readingJob s label lent) front
-      ∙ read-cut k L n label l writable m lent h (omega arith) ∙ ap (readBack k L n l lent) blocks
+      let blocks : min (m / blockBytes) (blocksFor (length l)) ≡ m / blockBytes = omega (arith, ap blocksFor bits-given) in
+      ap (λ w. readingJob (take m (w .room)) label lent) room-written ∙ ap (λ s. readingJob s label lent) front
+      ∙ read-cut k L n label l record-writable m lent h (omega arith) ∙ ap (readBack k L n l lent) blocks

@@ -75,9 +75,9 @@ module _ (start : ℕ) (s label : List ℕ) where
     short = λ j h k m. absurd (below h (omega arith));
   }
 
-  pub longest : (left i : ℕ) → Longest start s label left i (runFrom start s label left i)
+  pub run-longest : (left i : ℕ) → Longest start s label left i (runFrom start s label left i)
   unfolding runFrom
-  longest zero i = record {
+  run-longest zero i = record {
     from = omega arith;
     to = omega arith;
     passes = λ j h k. absurd (below h k);
@@ -87,7 +87,7 @@ module _ (start : ℕ) (s label : List ℕ) where
     none = λ e. refl;
     short = λ j h k e. refl;
   }
-  longest (suc left) i = go (refusalAt start s label i) refl (isFull start (blockAt s i)) refl (longest left (suc i))
+  run-longest (suc left) i = go (refusalAt start s label i) refl (isFull start (blockAt s i)) refl (run-longest left (suc i))
     where
       go : (r : ℕ) → refusalAt start s label i ≡ r → (f : Bool) → isFull start (blockAt s i) ≡ f → Longest start s label left (suc i) (runFrom start s label left (suc i))
           → Longest start s label (suc left) i (elim r [
@@ -101,7 +101,7 @@ module _ (start : ℕ) (s label : List ℕ) where
   -- where every block passes, and each but the last is full, all are kept
   pub all-kept : (left i : ℕ) → ((j : ℕ) → j < i + left → refusalAt start s label j ≡ 0) → ((j : ℕ) → suc j < i + left → isFull start (blockAt s j) ≡ true) → runFrom start s label left i ≡ record { kept = i + left; ended = 0 }
   all-kept left i pass full =
-      let g = longest left i in
+      let g = run-longest left i in
       let run = runFrom start s label left i in
       let e : run .kept ≡ i + left = elim (decLt (run .kept) (i + left)) [
         | yes h ↦ let a : LastFull start s i (run .kept) = λ j m k. full j (omega arith) in absurd (g .fails h a (sym (g .next h a) ∙ pass (run .kept) h))

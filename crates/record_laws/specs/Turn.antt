@@ -16,7 +16,7 @@ use Rattle.sizes.proofs.Ranges.{both-first, both-second}
 use Rattle.sizes.proofs.Refusals.{row-passed}
 use Rattle.bits.proofs.Packing.{Bytes}
 use Rattle.block.proofs.Blocks.{fields-of-passed, same-bytes-equal}
-use Rattle.record_laws.specs.Kept.{LastFull, longest}
+use Rattle.record_laws.specs.Kept.{LastFull, run-longest}
 
 -- a block that can be kept in its turn: it passes, its number is its turn, bytes 0 to 11 are as block 0 said, and the label is the one expected
 pub record Keepable (start : ℕ) (first label : List ℕ) (i : ℕ) (block : List ℕ) : Type 0 where
@@ -57,35 +57,35 @@ module _ (start : ℕ) (s label : List ℕ) where
   pub block-kept : (i : ℕ) → refusalAt start s label i ≡ 0 → Keepable start (said (blockAt s 0)) label i (blockAt s i)
   block-kept i h = keepable start (said (blockAt s 0)) label i (blockAt s i) h
 
-  pub few-kept : Bytes s → (runOf start s label) .kept ≤ numberedBlocks
-  few-kept w = go ((runOf start s label) .kept) (longest start s label (wholeBlocks s) 0 .passes)
+  pub kept-numbered : Bytes s → (runOf start s label) .kept ≤ numberedBlocks
+  kept-numbered w = go ((runOf start s label) .kept) (run-longest start s label (wholeBlocks s) 0 .passes)
     where
       go : (kept : ℕ) → ((j : ℕ) → 0 ≤ j → j < kept → refusalAt start s label j ≡ 0) → kept ≤ numberedBlocks
       go zero passes = omega arith
       go (suc j) passes = omega (arith, block-kept j (passes j (omega arith) (omega arith)) .number, pair-small s w j 12 (omega arith))
 
-  pub whole-kept : (runOf start s label) .kept ≤ wholeBlocks s
-  whole-kept = omega (arith, longest start s label (wholeBlocks s) 0 .to)
+  pub kept-within : (runOf start s label) .kept ≤ wholeBlocks s
+  kept-within = omega (arith, run-longest start s label (wholeBlocks s) 0 .to)
 
   -- a block that can be kept holds no more bits than its payload
-  pub count-kept : (i : ℕ) → refusalAt start s label i ≡ 0 → countOf (blockAt s i) ≤ payloadBits start
-  count-kept i h = fields-of-passed start (blockAt s i) (block-kept i h .passes) .its-count
+  pub count-of-kept : (i : ℕ) → refusalAt start s label i ≡ 0 → countOf (blockAt s i) ≤ payloadBits start
+  count-of-kept i h = fields-of-passed start (blockAt s i) (block-kept i h .passes) .its-count
 
-  pub most-kept : bitsKept start s ((runOf start s label) .kept) ≤ payloadBits start * (runOf start s label) .kept
+  pub bits-kept-most : bitsKept start s ((runOf start s label) .kept) ≤ payloadBits start * (runOf start s label) .kept
   unfolding bitsKept
-  most-kept = go ((runOf start s label) .kept) (longest start s label (wholeBlocks s) 0 .passes)
+  bits-kept-most = go ((runOf start s label) .kept) (run-longest start s label (wholeBlocks s) 0 .passes)
     where
       go : (kept : ℕ) → ((j : ℕ) → 0 ≤ j → j < kept → refusalAt start s label j ≡ 0) → bitsKept start s kept ≤ payloadBits start * kept
       go zero passes = omega arith
-      go (suc j) passes = omega (arith, mul-suc (payloadBits start) j, count-kept j (passes j (omega arith) (omega arith)))
+      go (suc j) passes = omega (arith, mul-suc (payloadBits start) j, count-of-kept j (passes j (omega arith) (omega arith)))
 
   -- where nothing is kept, the run ends with the number of block 0; where something is, block 0 is
-  pub first-kept : 0 < (runOf start s label) .kept → refusalAt start s label 0 ≡ 0
-  first-kept h = longest start s label (wholeBlocks s) 0 .passes 0 (omega arith) h
+  pub block-0-passes : 0 < (runOf start s label) .kept → refusalAt start s label 0 ≡ 0
+  block-0-passes h = run-longest start s label (wholeBlocks s) 0 .passes 0 (omega arith) h
 
-  pub first-refused : 0 < wholeBlocks s → (runOf start s label) .kept ≡ 0 → (refusalAt start s label 0 ≡ (runOf start s label) .ended) × ((runOf start s label) .ended ≡ 0 → ⊥)
-  first-refused h e =
-      let g = longest start s label (wholeBlocks s) 0 in
+  pub block-0-refused : 0 < wholeBlocks s → (runOf start s label) .kept ≡ 0 → (refusalAt start s label 0 ≡ (runOf start s label) .ended) × ((runOf start s label) .ended ≡ 0 → ⊥)
+  block-0-refused h e =
+      let g = run-longest start s label (wholeBlocks s) 0 in
       let none : LastFull start s 0 ((runOf start s label) .kept) = λ j k z. absurd (no j z e) in
       (ap (refusalAt start s label) (sym e) ∙ g .next (omega arith) none, g .fails (omega arith) none)
     where

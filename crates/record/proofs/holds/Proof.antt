@@ -1,5 +1,5 @@
 -- `holds`: two conditions, one after the other.
-use Rattle.record.proofs.Table.{first-and, second-and}
+use Rattle.record.proofs.RefusalRows.{first-and, second-and}
 use Rattle.paper.specs.Block.{blockBytes}
 use borrow.Author.Tests.{le-leb, lt-leb}
 use native.Mathlib.Omega.{arith}

@@ -1,5 +1,5 @@
 -- `lends`: eight bits a byte, compared by whole bytes.
-use Rattle.record.proofs.Table.{lends-exact}
+use Rattle.record.proofs.RefusalRows.{lends-exact}
 use borrow.Author.Tests.{le-leb, lt-leb}
 use native.Mathlib.Omega.{arith}
 use mathlib.Core.Path.{sym}

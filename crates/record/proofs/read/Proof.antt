@@ -1,10 +1,10 @@
 -- `read` is the reading job: refused by rows 6 and 7 or by block 0, or done by what the run keeps.
-use Rattle.record.proofs.Reading.{lent, lent-refused, lent-both, read-refused, Usable, usable, none-kept, read-done}
+use Rattle.record.proofs.Reading.{lentRefusal, lent-refused, lent-holds, read-refused, Usable, kept-usable, none-kept-refused, read-done}
 use Prim.Native.Nat.{_<_}
 use lib.ListN.{length}
 use native.Mathlib.Omega.{arith}
 use mathlib.Core.Path.{_≡_, sym, _∙_}
-use Rattle.record.proofs.Table.{rows-are}
+use Rattle.record.proofs.RefusalRows.{rows-judged}
 use Rattle.record.proofs.read.Statement.{statement}
 use Rattle.record.proofs.read.Tie as tie
 
@@ -23,12 +23,12 @@ refused-requires c κs = omega arith
 returns : tie.Need-returns
 returns c =
     let args = c .before .before .before .before .before .before .before .before .args in
-    let judged = rows-are (c .before .before .rows .ensures) (c .before .before .before .before .holds .ensures) (c .before .before .before .is-label .ensures) in
+    let judged = rows-judged (c .before .before .rows .ensures) (c .before .before .before .before .holds .ensures) (c .before .before .before .is-label .ensures) in
     read-refused (args .blocks .now) (args .label .now) (args .room .now) (c .before .before .rows .result) (lent-refused (args .blocks .now) (args .label .now) (args .room .now) judged (omega arith)) (omega arith) ∙ c .refused .ensures (args .room .now)
 
 -- rows 6 and 7 do not apply
-passed : (c : tie.Else1) → lent (length (c .before .before .before .before .before .before .before .args .blocks .now)) (c .before .before .before .before .before .before .before .args .label .now) (length (c .before .before .before .before .before .before .before .args .room .now)) ≡ 0
-passed c = sym (rows-are (c .before .rows .ensures) (c .before .before .before .holds .ensures) (c .before .before .is-label .ensures)) ∙ omega arith
+passed : (c : tie.Else1) → lentRefusal (length (c .before .before .before .before .before .before .before .args .blocks .now)) (c .before .before .before .before .before .before .before .args .label .now) (length (c .before .before .before .before .before .before .before .args .room .now)) ≡ 0
+passed c = sym (rows-judged (c .before .rows .ensures) (c .before .before .before .holds .ensures) (c .before .before .is-label .ensures)) ∙ omega arith
 
 longest-run-requires : tie.Need-longest-run-requires
 longest-run-requires c κs = omega arith
@@ -40,7 +40,7 @@ returns-2 : tie.Need-returns-2
 returns-2 c =
     let args = c .before .before .before .before .before .before .before .before .before .before .before .args in
     let run = c .before .before .before .longest-run in
-    let none = none-kept (args .blocks .now) (args .label .now) (args .room .now) (run .result .kept) (run .result .ended) (run .ensures) (passed (c .before .before .before .before)) (omega arith) in
+    let none = none-kept-refused (args .blocks .now) (args .label .now) (args .room .now) (run .result .kept) (run .result .ended) (run .ensures) (passed (c .before .before .before .before)) (omega arith) in
     read-refused (args .blocks .now) (args .label .now) (args .room .now) (run .result .ended) (none .0) (none .1) ∙ c .refused2 .ensures (args .room .now)
 
 -- something is kept
@@ -48,7 +48,7 @@ kept : (c : tie.Else2) → Usable (c .before .before .before .before .before .be
 kept c =
     let args = c .before .before .before .before .before .before .before .before .before .before .args in
     let run = c .before .before .longest-run in
-    usable (args .blocks .now) (args .label .now) (args .room .now) (run .result .kept) (run .result .ended) (run .ensures) (λ i. c .before .before .before .before .before .before .before .before .before .shared-slice-known .given i .fits)
+    kept-usable (args .blocks .now) (args .label .now) (args .room .now) (run .result .kept) (run .result .ended) (run .ensures) (λ i. c .before .before .before .before .before .before .before .before .before .shared-slice-known .given i .fits)
 
 bits-kept-requires : tie.Need-bits-kept-requires
 bits-kept-requires c κs = (omega arith, (kept c .few, kept c .whole))
@@ -58,13 +58,13 @@ copy-kept-requires c κs =
     let args = c .before .before .before .before .before .before .before .before .before .before .before .before .args in
     let ok = kept (c .before .before) in
     let bits = c .before .bits-kept .ensures in
-    (omega arith, (ok .whole, (lent-both (args .blocks .now) (args .label .now) (args .room .now) (passed (c .before .before .before .before .before)) .1, (bits, (omega (arith, ok .most, bits), ok .few)))))
+    (omega arith, (ok .whole, (lent-holds (args .blocks .now) (args .label .now) (args .room .now) (passed (c .before .before .before .before .before)) .1, (bits, (omega (arith, ok .most, bits), ok .few)))))
 
 -- byte 3 is there, and those before it
 header : (c : tie.Else1) → 3 < length (c .before .before .before .before .before .before .before .args .blocks .now)
 header c =
     let args = c .before .before .before .before .before .before .before .args in
-    omega (arith, lent-both (args .blocks .now) (args .label .now) (args .room .now) (passed c) .0)
+    omega (arith, lent-holds (args .blocks .now) (args .label .now) (args .room .now) (passed c) .0)
 
 shared-slice-read-t15 : tie.Need-shared-slice-read-t15
 shared-slice-read-t15 c = omega (arith, header (c .before .before .before .before .before .before .before .before .before))

@@ -1,6 +1,6 @@
 -- `rows`: the first row that applies.
 use Rattle.paper.specs.Sizes.{unless}
-use Rattle.record.proofs.Table.{row-refused, row-left}
+use Rattle.record.proofs.RefusalRows.{row-refused, row-left}
 use borrow.Author.Tests.{not-true, not-false}
 use mathlib.Core.Path.{_∙_}
 use Rattle.record.proofs.rows.Statement.{statement}

@@ -1,6 +1,6 @@
 -- `write` is the writing job: refused by its rows, or done by the blocks at the front of the room.
-use Rattle.record.proofs.Writing.{write-rows, write-refused, write-done, few-blocks}
-use Rattle.record_laws.specs.BothJobs.{Accepted, accepted}
+use Rattle.record.proofs.Writing.{write-rows, write-refused, write-done, bits-numbered}
+use Rattle.record_laws.specs.BothJobs.{Accepted, write-accepted}
 use Rattle.block.proofs.Blocks.{label-length}
 use Rattle.sizes.proofs.Ranges.{size-high, levels-few, planes-few}
 use Rattle.paper.specs.Jobs.{writingRefusal}
@@ -27,10 +27,10 @@ passed c =
 asked : (c : tie.Else1) → Accepted (c .before .before .before .before .before .args .k) (c .before .before .before .before .before .args .levels) (c .before .before .before .before .before .args .n) (c .before .before .before .before .before .args .label .now) (c .before .before .before .before .before .args .bytes .now) (c .before .before .before .before .before .args .b) (c .before .before .before .before .before .args .room .now)
 asked c =
     let args = c .before .before .before .before .before .args in
-    accepted (args .k) (args .levels) (args .n) (args .label .now) (args .bytes .now) (args .b) (args .room .now) (passed c)
+    write-accepted (args .k) (args .levels) (args .n) (args .label .now) (args .bytes .now) (args .b) (args .room .now) (passed c)
 
 blocks-for-requires : tie.Need-blocks-for-requires
-blocks-for-requires c κs = few-blocks (asked c)
+blocks-for-requires c κs = bits-numbered (asked c)
 
 cast-write-blocks : tie.Need-cast-write-blocks
 cast-write-blocks c = record { fits = omega (arith, size-high _ (asked (c .before .before) .size)) }
@@ -45,7 +45,7 @@ write-blocks-requires : tie.Need-write-blocks-requires
 write-blocks-requires c κs =
     let a = asked (c .before .before) in
     let blocks = c .before .blocks-for .ensures in
-    (omega (arith, a .fits, blocks), (label-length _ (a .labelled), (a .lent, omega (arith, few-blocks a, blocks))))
+    (omega (arith, a .fits, blocks), (label-length _ (a .labelled), (a .lent, omega (arith, bits-numbered a, blocks))))
 
 same-length : tie.Need-same-length
 same-length c = omega arith

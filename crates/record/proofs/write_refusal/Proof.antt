@@ -1,5 +1,5 @@
 -- `write_refusal`: rows 1 and 2 by `sizes`, then 5, then 6 and 7.
-use Rattle.record.proofs.Table.{row-refused, row-left, rows-are}
+use Rattle.record.proofs.RefusalRows.{row-refused, row-left, rows-judged}
 use Rattle.sizes.proofs.Refusals.{size-accepted, sizes-stand, sizes-leave}
 use Rattle.paper.specs.Jobs.{sizesRefusal}
 use borrow.Author.Tests.{not-true, not-false}
@@ -41,7 +41,7 @@ returns-3 : tie.Need-returns-3
 returns-3 c =
     let args = c .before .before .before .before .before .before .before .before .args in
     let passed : sizesRefusal (args .k) (args .levels) 0 ≡ 0 = sym (c .before .before .before .before .before .before .sizes-refusal .ensures) ∙ omega arith in
-    rows-are (c .rows .ensures) (c .before .before .fits2 .ensures) (c .before .is-label .ensures) ∙ row-left 5 _ (sym (c .before .before .before .before .planes-in .ensures) ∙ not-false _ (c .before .before .before .if2 .left)) ∙ sym (sizes-leave (args .k) (args .levels) _ passed)
+    rows-judged (c .rows .ensures) (c .before .before .fits2 .ensures) (c .before .is-label .ensures) ∙ row-left 5 _ (sym (c .before .before .before .before .planes-in .ensures) ∙ not-false _ (c .before .before .before .if2 .left)) ∙ sym (sizes-leave (args .k) (args .levels) _ passed)
 
 pub write-refusal-spec : {M : Type 1} → statement M
 write-refusal-spec =

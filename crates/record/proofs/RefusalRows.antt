@@ -14,8 +14,8 @@ pub row-left : (r later : ℕ) {b : Bool} → b ≡ true → later ≡ unless r 
 row-left r later e = ap (λ b. unless r b later) (sym e)
 
 -- rows 6 and 7, from what their conditions are
-pub rows-are : {r : ℕ} {a b c d : Bool} → r ≡ unless 6 a (unless 7 b 0) → a ≡ c → b ≡ d → r ≡ unless 6 c (unless 7 d 0)
-rows-are e f g = e ∙ (λ t. unless 6 (f t) (unless 7 (g t) 0))
+pub rows-judged : {r : ℕ} {a b c d : Bool} → r ≡ unless 6 a (unless 7 b 0) → a ≡ c → b ≡ d → r ≡ unless 6 c (unless 7 d 0)
+rows-judged e f g = e ∙ (λ t. unless 6 (f t) (unless 7 (g t) 0))
 
 -- b bits and whole bytes
 pub lends-exact : (b bytes : ℕ) → b / 8 ≡ bytes → eqb (b % 8) 0 ≡ leb b (8 * bytes)
@@ -29,10 +29,10 @@ lends-exact b bytes e = go (eqb (b % 8) 0) refl
     go false t = sym (lt-leb b (8 * bytes) (more b bytes e (eqb-false (b % 8) 0 t)))
 
 -- two rows of which the first has two conditions, before whatever the later rows say
-pub two-rows : (r q : ℕ) (a b : Bool) (later : ℕ) → unless (suc r) a (unless (suc q) b 0) ≡ 0 → unless (suc r) a (unless (suc q) b later) ≡ later
-two-rows r q true true later e = refl
-two-rows r q true false later e = absurd (omega arith)
-two-rows r q false b later e = absurd (omega arith)
+pub rows-leave : (r q : ℕ) (a b : Bool) (later : ℕ) → unless (suc r) a (unless (suc q) b 0) ≡ 0 → unless (suc r) a (unless (suc q) b later) ≡ later
+rows-leave r q true true later e = refl
+rows-leave r q true false later e = absurd (omega arith)
+rows-leave r q false b later e = absurd (omega arith)
 
 pub rows-stand : (r q : ℕ) (a b : Bool) (later : ℕ) → 0 < unless (suc r) a (unless (suc q) b 0) → unless (suc r) a (unless (suc q) b later) ≡ unless (suc r) a (unless (suc q) b 0)
 rows-stand r q true true later h = absurd (omega arith)
