@@ -22,7 +22,7 @@ use Rattle.bits.proofs.OneBit.{bits-length}
 use Rattle.square_laws.specs.Picture.{lossless}
 use Rattle.walk_laws.specs.Decoded.{all-bits}
 use Rattle.walk_laws.specs.Unfinished.{AllRead, planesRead, unfinished-true}
-use Rattle.record_laws.specs.BothJobs.{written}
+use Rattle.record_laws.specs.BothJobs.{room-written}
 use Rattle.record_laws.specs.ReadBack.{bitsIn, every-bit, readBack}
 use Rattle.label.specs.Journey.{intoRecord, Seen, outOfRecord}
 use Rattle.label.proofs.Way.{Numbers, written-all, accepted}
@@ -79,7 +79,7 @@ module _ (k L : ℕ) (label picture : List ℕ) (limit : ℕ) (numbers : List �
   pub whole-written : (W .refusal ≡ 0) × (W .blocks ≡ blocksFor (length C))
   whole-written =
       let e = into-is k L label picture G limit numbers (enough .numbers-hold) bytes room fits in
-      let w = written k L (n k L label picture G) label (laid (writtenOf k L T limit bytes) bytes) (length (writtenOf k L T limit bytes)) room (accepted k L T (truth-given k L label picture G) limit bytes label (G .labelled) room fits) in
+      let w = room-written k L (n k L label picture G) label (laid (writtenOf k L T limit bytes) bytes) (length (writtenOf k L T limit bytes)) room (accepted k L T (truth-given k L label picture G) limit bytes label (G .labelled) room fits) in
       (ap (λ (a : Writing). a .refusal) (e ∙ w), ap (λ (a : Writing). a .blocks) (e ∙ w) ∙ ap (λ (l : List Bool). blocksFor (length l)) all-written)
 
   -- The whole record, read, decoded and inverted, is the very picture, with no plane unfinished.
