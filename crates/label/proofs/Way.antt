@@ -70,7 +70,7 @@ module _ (k L : ℕ) (numbers : List ℤ) (given : Numbers k L numbers) (limit :
 
   bounded : length written ≤ mostBits k (planeCount numbers)
   unfolding writtenOf
-  bounded = omega (arith, length-take (min limit (8 * length bytes)) (codeOf k L numbers), coding-bound k L numbers (levels-less k L (given .levels)) (given .square) (given .small))
+  bounded = omega (arith, length-take (min limit (8 * length bytes)) (codeOf k L numbers), coding-bound k L numbers (levels-less k L (given .levels)) (given .square))
 
   -- the bits come back from the bytes
   pub bits-written : take (length written) (bits (laid written bytes)) ≡ written

@@ -1,6 +1,6 @@
 -- Wavelet numbers in range: each by itself, and those of a part.
 use mathlib.Core.Path.{_≡_, refl}
-use mathlib.Core.Bool.{Bool, true, false, _&&_}
+use mathlib.Core.Bool.{Bool, true, _&&_}
 use mathlib.Core.List.{List, [], _∷_}
 use Prim.Native.Nat.{ℕ, zero, suc}
 use native.Mathlib.Omega.{arith}
@@ -11,10 +11,7 @@ use borrow.Author.Tests.{leb-true}
 use Rattle.paper.specs.Sizes.{numberLimit, numbersIn}
 use Rattle.paper.specs.Lists.{at}
 use Rattle.integer_laws.specs.Order.{Within}
-
-both : (a b : Bool) → (a && b) ≡ true → (a ≡ true) × (b ≡ true)
-both true b e = (refl, e)
-both false b e = absurd (let z : _≡_ {A = ℕ} 0 1 = cc in omega arith)
+use Rattle.sizes.proofs.Ranges.{both-first, both-second}
 
 both-yes : (a b : Bool) → a ≡ true → b ≡ true → (a && b) ≡ true
 both-yes a b e f = cc
@@ -22,17 +19,19 @@ both-yes a b e f = cc
 pub number-in : (xs : List ℤ) (i : ℕ) → numbersIn xs ≡ true → Within numberLimit (at xs i)
 unfolding numbersIn
 number-in [] i h = record { size = omega arith }
-number-in (x ∷ xs) zero h = record { size = leb-true (natAbs x) numberLimit (both (leb (natAbs x) numberLimit) (numbersIn xs) h .0) }
-number-in (x ∷ xs) (suc i) h = number-in xs i (both (leb (natAbs x) numberLimit) (numbersIn xs) h .1)
+number-in (x ∷ xs) zero h = record { size = leb-true (natAbs x) numberLimit (both-first (leb (natAbs x) numberLimit) (numbersIn xs) h) }
+number-in (x ∷ xs) (suc i) h = number-in xs i (both-second (leb (natAbs x) numberLimit) (numbersIn xs) h)
 
 pub numbers-take : (n : ℕ) (xs : List ℤ) → numbersIn xs ≡ true → numbersIn (take n xs) ≡ true
 unfolding numbersIn
 numbers-take zero xs h = refl
 numbers-take (suc n) [] h = refl
-numbers-take (suc n) (x ∷ xs) h = let w = both (leb (natAbs x) numberLimit) (numbersIn xs) h in both-yes (leb (natAbs x) numberLimit) (numbersIn (take n xs)) (w .0) (numbers-take n xs (w .1))
+numbers-take (suc n) (x ∷ xs) h =
+    let first = leb (natAbs x) numberLimit in
+    both-yes first (numbersIn (take n xs)) (both-first first (numbersIn xs) h) (numbers-take n xs (both-second first (numbersIn xs) h))
 
 pub numbers-drop : (n : ℕ) (xs : List ℤ) → numbersIn xs ≡ true → numbersIn (drop n xs) ≡ true
 unfolding numbersIn
 numbers-drop zero xs h = h
 numbers-drop (suc n) [] h = refl
-numbers-drop (suc n) (x ∷ xs) h = numbers-drop n xs (both (leb (natAbs x) numberLimit) (numbersIn xs) h .1)
+numbers-drop (suc n) (x ∷ xs) h = numbers-drop n xs (both-second (leb (natAbs x) numberLimit) (numbersIn xs) h)

@@ -1,14 +1,14 @@
 -- What a test and a number ask for, by what the numbers held say: the walk's definitions, one case at a time.
-use mathlib.Core.Path.{_≡_, refl, ap}
+use mathlib.Core.Path.{_≡_, refl, ap, _∙_}
 use mathlib.Core.Bool.{Bool, true, false}
 use mathlib.Core.List.{List, [], _∷_}
-use Prim.Native.Nat.{ℕ, zero, suc, _+_, _^_, _≤_}
+use Prim.Native.Nat.{ℕ, zero, suc, _+_, _^_, _≤_, _<_}
 use native.Mathlib.Nat.{pow-suc, pow-le-pow-right, add-zero}
 use native.Mathlib.Omega.{arith}
 use lib.Dec.{leb}
 use lib.IntN.{ℤ, natAbs}
 use lib.ListN.{length, drop, length-drop}
-use Rattle.paper.specs.Walk.{negative, bitOf, reaches, Reading, isOne, testSet, refined, begun, walkNumber}
+use Rattle.paper.specs.Walk.{negative, bitOf, reaches, Reading, isOne, testSet, refined, begun, walkNumber, depth}
 
 module _ (R : Reading) where
   pub test-known : (p : ℕ) (xs : List ℤ) → reaches (2 ^ suc p) xs ≡ true → testSet R p xs ≡ R .done true
@@ -61,3 +61,7 @@ rest-closes d (suc left) xs h =
 pub plane-closes : (d L : ℕ) (xs : List ℤ) → length xs ≡ 4 ^ (suc d + L) → Closes d L (drop (4 ^ suc d) xs)
 plane-closes d L xs s =
     rest-closes d L (drop (4 ^ suc d) xs) (omega (arith, length-drop (4 ^ suc d) xs, pow-le-pow-right {n = 4} (omega arith) {i = suc d} {j = suc d + L} (omega arith)))
+
+-- so do those of the square's numbers
+pub square-closes : (k L : ℕ) (xs : List ℤ) → L < k → length xs ≡ 4 ^ k → Closes (depth k L) L (drop (4 ^ suc (depth k L)) xs)
+square-closes k L xs levels square = plane-closes (depth k L) L xs (square ∙ ap (λ j. 4 ^ j) (let e : k ≡ suc (depth k L) + L = omega arith in e))

@@ -10,11 +10,10 @@ use lib.Dec.{leb}
 use borrow.Author.Tests.{leb-true, le-leb}
 use lib.IntN.{ℤ, natAbs}
 use lib.ListN.{length, take, drop, length-append, take-append-drop}
-use Rattle.paper.specs.Sizes.{numbersIn, mostBits}
+use Rattle.paper.specs.Sizes.{mostBits}
 use Rattle.paper.specs.Walk.{reaches, isOne, Coder, testSet, walkNumber, walkNumbers, walkSet, walkRest, walkPlane, walkPlanes, codeOf, planeCount, depth, _next_}
-use Rattle.walk_laws.specs.Asks.{behind, Closes, test-known, test-asks, number-known, number-asks, afterBit, opened}
+use Rattle.walk_laws.specs.Asks.{behind, Closes, square-closes, test-known, test-asks, number-known, number-asks, afterBit, opened}
 use Rattle.walk_laws.specs.Planes.{planesCode, code-step}
-use Rattle.walk_laws.specs.Decoded.{square-closes}
 
 -- ---- one plane
 -- 1 for a number that becomes T or more in plane p, which costs a sign bit
@@ -167,11 +166,10 @@ module _ (d L : ℕ) (xs : List ℤ) (h : Closes d L (drop (4 ^ suc d) xs)) wher
       let f : n * (3 * (t + length xs)) ≡ 3 * (n * (t + length xs)) = mul-left-comm n 3 (t + length xs) in
       omega (arith, cost-planes n, signs-most n xs, f, ap (λ k. n * k) e)
 
-module _ (k L : ℕ) (xs : List ℤ) (levels : L < k) (square : length xs ≡ 4 ^ k) (numbers-in : numbersIn xs ≡ true) where
-  -- A coding has at most n (4 S² - 1) / 3 + S² bits.
-  pub coding-bound : length (codeOf k L xs) ≤ mostBits k (planeCount xs)
-  unfolding codeOf mostBits
-  coding-bound =
-      let d = depth k L in
-      let e : suc d + L ≡ k = omega arith in
-      rw square at (planes-bound d L xs (square-closes k L xs levels square numbers-in) (planeCount xs) (square ∙ ap (λ j. 4 ^ j) (sym e)))
+-- A coding has at most n (4 S² - 1) / 3 + S² bits.
+pub coding-bound : (k L : ℕ) (xs : List ℤ) → L < k → length xs ≡ 4 ^ k → length (codeOf k L xs) ≤ mostBits k (planeCount xs)
+unfolding codeOf mostBits
+coding-bound k L xs levels square =
+    let d = depth k L in
+    let e : suc d + L ≡ k = omega arith in
+    rw square at (planes-bound d L xs (square-closes k L xs levels square) (planeCount xs) (square ∙ ap (λ j. 4 ^ j) (sym e)))

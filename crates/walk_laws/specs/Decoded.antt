@@ -18,8 +18,9 @@ use Rattle.sizes.proofs.Numbers.{largest-in}
 use Rattle.integer_laws.specs.Difference.{_⊖_, split, pos-⊖}
 use Rattle.integer_laws.specs.Order.{ints, zarith}
 use Rattle.walk_laws.specs.Cleared.{high, cleared, natAbs-cleared, high-le, lt-high, high-mono, negative-signed, signed-zero, signed-self, cleared-none, cleared-small}
-use Rattle.walk_laws.specs.Asks.{Closes, plane-closes}
+use Rattle.walk_laws.specs.Asks.{Closes, square-closes}
 use Rattle.walk_laws.specs.Together.{tape}
+use Rattle.walk_laws.specs.Read.{decoded-as}
 use Rattle.walk_laws.specs.Planes.{unsettled, unsettled-most, settled-at, Stopped, Further, run, run-whole, run-part}
 
 -- ---- one number
@@ -98,40 +99,37 @@ module _ (k L : ℕ) (xs : List ℤ) (levels : L < k) (square : length xs ≡ 4 
   abbrev code : List Bool
   code = codeOf k L xs
 
-  pub square-closes : Closes d L (drop (4 ^ suc d) xs)
-  square-closes = plane-closes d L xs (square ∙ ap (λ j. 4 ^ j) (let e : k ≡ suc d + L = omega arith in e))
+  abbrev closed : Closes d L (drop (4 ^ suc d) xs)
+  closed = square-closes k L xs levels square
 
   pub start-cleared : map (cleared n) xs ≡ replicate (4 ^ k) (pos 0)
   start-cleared = all-cleared n xs (count-fits xs numbers-in) ∙ ap (λ j. replicate j (pos 0)) square
 
-  decoded : (l : List Bool) {v : List ℤ × ℕ} {t : Tape} → run d L xs square-closes n l ≡ (v, t)
+  decoded : (l : List Bool) {v : List ℤ × ℕ} {t : Tape} → run d L xs closed n l ≡ (v, t)
       → decodeOf k L n l ≡ record { numbers = v .0; unfinished = v .1; read = length l - length (t .left) }
-  unfolding decodeOf
-  decoded l e =
-      ap {B = Settled} (λ q. record { numbers = q .0 .0; unfinished = q .0 .1; read = length l - length (q .1 .left) })
-      (ap (λ z. walkPlanes Decoder d L n z (tape l false)) (sym start-cleared) ∙ e)
+  decoded l e = decoded-as k L n l (ap (λ z. walkPlanes Decoder d L n z (tape l false)) (sym start-cleared) ∙ e)
 
   -- The whole coding, whatever stands behind it, decodes to the numbers, and no bit behind it is read.
   pub coding-decoded : (r : List Bool) → decodeOf k L n (code ++ r) ≡ record { numbers = xs; unfinished = 0; read = length code }
   unfolding codeOf
   coding-decoded r =
-      decoded (code ++ r) (run-whole d L xs square-closes n r)
+      decoded (code ++ r) (run-whole d L xs closed n r)
       ∙ (λ i. record { numbers = none-cleared xs i; unfinished = 0; read = (let e : length (code ++ r) - length r ≡ length code = omega (arith, length-append code r) in e) i })
 
   pub all-bits : (b : ℕ) → length code ≤ b → decodedFirst k L xs b ≡ record { numbers = xs; unfinished = 0; read = length code }
   all-bits b h = ap (decodeOf k L n) (take-all b code h ∙ sym (append-nil code)) ∙ coding-decoded []
 
   -- the first b bits and the first c, neither all of them
-  some-bits : (b c : ℕ) → b ≤ c → c < length code → Further xs n (run d L xs square-closes n (take b code)) (run d L xs square-closes n (take c code))
+  some-bits : (b c : ℕ) → b ≤ c → c < length code → Further xs n (run d L xs closed n (take b code)) (run d L xs closed n (take c code))
   unfolding codeOf
   some-bits b c h g =
       let k = take (c - b) (drop b code) in
       let join : take b code ++ k ≡ take c code = sym (take-add b (c - b) code) ∙ ap (λ j. take j code) (let e : b + (c - b) ≡ c = omega arith in e) in
       let e : (take b code ++ k) ++ getD code c false ∷ drop (suc c) code ≡ code = (λ i. join i ++ sym (drop-cons code c false g) i) ∙ take-append-drop c code in
-      rw join at (run-part d L xs square-closes n (take b code) k (getD code c false) (drop (suc c) code) e)
+      rw join at (run-part d L xs closed n (take b code) k (getD code c false) (drop (suc c) code) e)
 
   -- number i, where the decoder stops in a plane
-  stopped-at : (b i : ℕ) {p j : ℕ} → Stopped xs n p j (run d L xs square-closes n (take b code))
+  stopped-at : (b i : ℕ) {p j : ℕ} → Stopped xs n p j (run d L xs closed n (take b code))
       → at ((decodedFirst k L xs b) .numbers) i ≡ cleared (unsettled p j i) (at xs i)
   stopped-at b i {p = p} {j = j} S = ap (λ (s : Settled). at (s .numbers) i) (decoded (take b code) (S .is)) ∙ settled-at p j xs i
 

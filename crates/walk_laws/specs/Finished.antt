@@ -11,11 +11,11 @@ use lib.ListN.{length, drop, length-drop}
 use Rattle.paper.specs.Sizes.{numbersIn}
 use Rattle.paper.specs.Walk.{planeCount, depth, codeOf, decodeOf, Settled}
 use Rattle.walk_laws.specs.Cleared.{cleared}
-use Rattle.walk_laws.specs.Asks.{Closes}
+use Rattle.walk_laws.specs.Asks.{Closes, square-closes}
 use Rattle.walk_laws.specs.Together.{tape}
 use Rattle.walk_laws.specs.Plane.{together-plane}
 use Rattle.walk_laws.specs.Planes.{planesCode, code-step}
-use Rattle.walk_laws.specs.Decoded.{decodedFirst, square-closes, start-cleared, coding-decoded}
+use Rattle.walk_laws.specs.Decoded.{decodedFirst, start-cleared, coding-decoded}
 use Rattle.walk_laws.specs.Down.{walkDown, down-step, down-ends}
 use Rattle.walk_laws.specs.Unfinished.{planesOver, AllRead, bitsThrough, finished-read, through-first, last-bit-any, before-last-bit-any}
 
@@ -52,7 +52,7 @@ module _ (k L : ℕ) (xs : List ℤ) (levels : L < k) (square : length xs ≡ 4 
   unfolding planesOver bitsThrough codeOf
   coding-left q h =
       let left : (planesOver k L n q code) .1 ≡ planesCode d L xs q = ap (λ z. (walkDown d L q n z (tape code false)) .1 .left) (sym (start-cleared k L xs levels square numbers-in))
-      ∙ ap (λ r. r .1 .left) (down-coding d L xs (square-closes k L xs levels square numbers-in) q n h) in
+      ∙ ap (λ r. r .1 .left) (down-coding d L xs (square-closes k L xs levels square) q n h) in
       omega (arith, ap length left, ap length (through-first k L n q code (coding-read q)), length-drop (bitsThrough k L n q code) code)
 
   -- The last bit of plane q is where the coder wrote it.

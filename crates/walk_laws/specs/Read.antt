@@ -254,7 +254,7 @@ module _ (k L n : ℕ) where
   outcome : (l : List Bool) → Outcome (Counted (4 ^ k)) most (walkPlanes Decoder d L n start) l
   outcome l = reads-planes d L (4 ^ k) n start (length-replicate (4 ^ k) (pos 0)) l
 
-  decoded-as : (l : List Bool) {v : List ℤ × ℕ} {t : Tape} → walkPlanes Decoder d L n start (tape l false) ≡ (v, t)
+  pub decoded-as : (l : List Bool) {v : List ℤ × ℕ} {t : Tape} → walkPlanes Decoder d L n start (tape l false) ≡ (v, t)
       → decodeOf k L n l ≡ record { numbers = v .0; unfinished = v .1; read = length l - length (t .left) }
   unfolding decodeOf
   decoded-as l e = ap {B = Settled} (λ r. record { numbers = r .0 .0; unfinished = r .0 .1; read = length l - length (r .1 .left) }) e
