@@ -1,4 +1,4 @@
--- L levels are undone: levelsBack gives back what levelsForward was given.
+-- L levels are undone where a line is: levelsBack gives back what levelsForward was given.
 use mathlib.Core.Path.{_≡_, refl, sym, ap, _∙_}
 use mathlib.Core.Bool.{Bool, true, false}
 use mathlib.Core.List.{List}

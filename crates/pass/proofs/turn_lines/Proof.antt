@@ -29,7 +29,7 @@ turn-line-requires c κs =
     let p = s .pre in
     let P = t .loop .inv .3 in
     let b : t .loop .l < 2 ^ a .j = omega arith in
-    let e = passed-line (way (a .back)) (a .j) (a .down) (t .loop .l) (a .xs .now) (t .loop .xs) b P in
+    let e = passed-line _ (a .j) (a .down) (t .loop .l) (a .xs .now) (t .loop .xs) b P in
     (p .0, (p .1 .0, (b, (P .size ∙ p .1 .1 .0, (rw e (line-each (a .j) (a .down) (a .xs .now) (t .loop .l) (p .1 .1 .1 .0)), (t .loop .inv .1, t .loop .inv .2))))))
 
 add-l : tie.Need-add-l Inv-loop μ-loop
@@ -44,8 +44,8 @@ loop-again c =
     let t = r .before .before .before .before .before in
     let a = t .before .args in
     let P = t .loop .inv .3 in
-    let e = passed-line (way (a .back)) (a .j) (a .down) (t .loop .l) (a .xs .now) (t .loop .xs) (omega arith) P in
-    (omega arith, search needs, search needs, passed-more (way (a .back)) (a .j) (a .down) (t .loop .l) (a .xs .now) (t .loop .xs) _ (omega arith) P (r .turn-line .ensures .0), λ h. last-more (way (a .back)) (a .j) (a .down) (t .loop .l) (a .xs .now) (t .loop .xs) _ _ e (r .turn-line .ensures .1 .0) (r .turn-line .ensures .1 .1))
+    let e = passed-line _ (a .j) (a .down) (t .loop .l) (a .xs .now) (t .loop .xs) (omega arith) P in
+    (omega arith, search needs, search needs, passed-more _ (a .j) (a .down) (t .loop .l) (a .xs .now) (t .loop .xs) _ (omega arith) P (r .turn-line .ensures .0), λ h. last-more _ (a .j) (a .down) (t .loop .l) (a .xs .now) (t .loop .xs) _ _ e (r .turn-line .ensures .1 .0) (r .turn-line .ensures .1 .1))
 
 same-length : tie.Need-same-length Inv-loop μ-loop
 same-length c = omega arith
