@@ -40,7 +40,7 @@ module _ (start : ℕ) (first label : List ℕ) (i : ℕ) (block : List ℕ) whe
   turn-judged r fits e z f = ap (λ g. unless 10 g 0) f ∙ ap (λ r. unless r (eqb r 0) (unless 10 (inTurn first label i block) 0)) (sym z ∙ e)
 
 -- block i of s, by what block 0 of s said
-pub judged-at : (start : ℕ) (s label : List ℕ) (i : ℕ) {r : ℕ} {zero-th first block : List ℕ} → zero-th ≡ blockAt s 0 → first ≡ said zero-th → block ≡ blockAt s i
+pub judged-at : (start : ℕ) (s label : List ℕ) (i : ℕ) {r : ℕ} {block0 first block : List ℕ} → block0 ≡ blockAt s 0 → first ≡ said block0 → block ≡ blockAt s i
     → r ≡ turnRefusal start first label i block → r ≡ refusalAt start s label i
 judged-at start s label i z f b e = e ∙ (λ t. turnRefusal start ((f ∙ ap said z) t) label i (b t))
 

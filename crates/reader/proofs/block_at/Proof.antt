@@ -1,5 +1,4 @@
 -- `block_at` lends the part that is block i.
-use mathlib.Core.Path.{_∙_}
 use native.Mathlib.Omega.{arith}
 use Rattle.reader.proofs.Turn.{part-is}
 use Rattle.reader.proofs.block_at.Statement.{statement}
