@@ -12,7 +12,6 @@ use Rattle.paper.specs.Record.{wholeBlocks, blockAt, bitsKept, payloadKept}
 use Rattle.list_laws.specs.Over.{over-whole, laid-behind}
 use Rattle.list_laws.specs.Joined.{Even, length-joined, one-joined}
 use Rattle.list_laws.specs.Parts.{behind-part}
-use Rattle.reader.proofs.Turn.{part-is}
 
 pub payload-length : (start : ℕ) (s : List ℕ) (i : ℕ) → blockBytes * i + blockBytes ≤ length s → length (payloadOf start (blockAt s i)) ≡ payloadBytes start
 unfolding payloadOf
@@ -23,18 +22,15 @@ module _ (start : ℕ) (s room last : List ℕ) (i n : ℕ) where
   abbrev before : ℕ
   before = payloadBytes start * i
 
-  abbrev lent : List ℕ
-  lent = take (blockBytes * i + blockBytes - blockBytes * i) (drop (blockBytes * i) s)
-
-  pub payload-put : blockBytes * i + blockBytes ≤ length s → before + n ≤ length room → n ≤ payloadBytes start
-      → last ≡ over (take (n - 0) (payloadOf start lent)) (take (before + n - before) (drop before room))
+  pub payload-put : (block : List ℕ) → block ≡ blockAt s i → blockBytes * i + blockBytes ≤ length s → before + n ≤ length room → n ≤ payloadBytes start
+      → last ≡ over (take (n - 0) (payloadOf start block)) (take (before + n - before) (drop before room))
       → take before room ++ (last ++ drop (before + n - before) (drop before room)) ≡ take before room ++ (take n (payloadOf start (blockAt s i)) ++ drop (before + n) room)
-  payload-put h g k e =
+  payload-put block b h g k e =
       let payload = payloadOf start (blockAt s i) in
       let all : n - 0 ≡ n = omega arith in
       let place = take (before + n - before) (drop before room) in
       let fits : length (take n payload) ≡ length place = length-take-le n payload (omega (arith, payload-length start s i h)) ∙ sym (length-take (before + n - before) (drop before room) ∙ omega (arith, length-drop before room)) in
-      let put : last ≡ take n payload = e ∙ (λ t. over (take (all t) (payloadOf start (part-is s i t))) place) ∙ over-whole (take n payload) place fits in
+      let put : last ≡ take n payload = e ∙ (λ t. over (take (all t) (payloadOf start (b t))) place) ∙ over-whole (take n payload) place fits in
       λ t. take before room ++ (put t ++ behind-part before (before + n) room (omega arith) t)
 
 abbrev payloads : ℕ → List ℕ → ℕ → List ℕ

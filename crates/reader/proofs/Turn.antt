@@ -11,7 +11,7 @@ use lib.ListN.{length, take, drop}
 use borrow.Author.Tests.{eq-eqb, ne-eqb}
 use Rattle.paper.specs.Sizes.{unless}
 use Rattle.paper.specs.Block.{blockBytes, payloadBits, countOf, blockRefusal}
-use Rattle.paper.specs.Record.{blockAt, inTurn, turnRefusal, refusalAt, isFull, Run, runFrom, runOf, bitsKept}
+use Rattle.paper.specs.Record.{blockAt, said, inTurn, turnRefusal, refusalAt, isFull, Run, runFrom, runOf, bitsKept}
 
 -- ---- three tests, one after the other
 pub first-fails : {a : Bool} (b c : Bool) → a ≡ false → false ≡ (a && b && c)
@@ -38,6 +38,11 @@ module _ (start : ℕ) (first label : List ℕ) (i : ℕ) (block : List ℕ) whe
   pub turn-judged : (r : ℕ) (fits : Bool) → r ≡ blockRefusal start block → r ≡ 0 → fits ≡ inTurn first label i block → unless 10 fits 0 ≡ turnRefusal start first label i block
   unfolding turnRefusal
   turn-judged r fits e z f = ap (λ g. unless 10 g 0) f ∙ ap (λ r. unless r (eqb r 0) (unless 10 (inTurn first label i block) 0)) (sym z ∙ e)
+
+-- block i of s, by what block 0 of s said
+pub judged-at : (start : ℕ) (s label : List ℕ) (i : ℕ) {r : ℕ} {block0 first block : List ℕ} → block0 ≡ blockAt s 0 → first ≡ said block0 → block ≡ blockAt s i
+    → r ≡ turnRefusal start first label i block → r ≡ refusalAt start s label i
+judged-at start s label i z f b e = e ∙ (λ t. turnRefusal start ((f ∙ ap said z) t) label i (b t))
 
 -- ---- a step of the run
 abbrev after : ℕ → List ℕ → List ℕ → ℕ → ℕ → ℕ → Bool → Run

@@ -4,13 +4,31 @@ ghost use mathlib.Core.List.{_++_};
 ghost use Prim.Native.Nat.{_+_, _*_, _<_, _≤_};
 ghost use lib.ListN.{length, take, drop};
 ghost use Rattle.paper.specs.Lists.{joined, over};
-ghost use Rattle.paper.specs.Block.{blockBytes, numberedBlocks, countOf, payloadOf, payloadStart, payloadBytes, payloadBits};
-ghost use Rattle.paper.specs.Record.{blockAt, wholeBlocks, inTurn, turnRefusal, refusalAt, runOf, bitsKept, payloadKept};
+ghost use Rattle.paper.specs.Block.{blockBytes, numberedBlocks, payloadOf, payloadStart, payloadBytes, payloadBits};
+ghost use Rattle.paper.specs.Record.{blockAt, wholeBlocks, said, inTurn, turnRefusal, runOf, bitsKept, payloadKept};
 use block::BLOCK;
 use block::CHECKS;
 use block::PAYLOAD;
 use block::PAYLOAD_BITS;
 use block::PAYLOAD_BYTES;
+
+// Block i of lent blocks.
+pub fn block_at(blocks: &[u8], i: usize) -> &[u8]
+    requires { ⌜ blockBytes * i + blockBytes ≤ length (now blocks) ⌝ }
+    ensures { λ r. ⌜ (now r ≡ blockAt (now (blocks .entry)) i) × (length (now r) ≡ blockBytes) ⌝ }
+{
+    let start = BLOCK * i;
+    let end = start + BLOCK;
+    &blocks[start..end]
+}
+
+// What a block said, if it is block 0: its bytes 0 to 11.
+pub fn said_by(block: &[u8]) -> &[u8]
+    requires { ⌜ length (now block) ≡ blockBytes ⌝ }
+    ensures { λ r. ⌜ now r ≡ said (now (block .entry)) ⌝ }
+{
+    &block[0..12]
+}
 
 // In its turn i: numbered so, with bytes 0 to 11 as block 0 said and the label expected.
 fn in_turn(first: &[u8], label: &[u8], i: usize, block: &[u8]) -> bool
@@ -20,7 +38,7 @@ fn in_turn(first: &[u8], label: &[u8], i: usize, block: &[u8]) -> bool
     if fields::pair_at(block, 12) != i {
         return false;
     }
-    if !fields::same_bytes(&block[0..12], first) {
+    if !fields::same_bytes(said_by(block), first) {
         return false;
     }
     let name = &block[4..12];
@@ -43,27 +61,6 @@ pub fn turn_refusal(first: &[u8], label: &[u8], i: usize, block: &[u8]) -> u32
     }
 }
 
-// Block i of lent blocks, judged in its turn.
-fn refusal_at(blocks: &[u8], label: &[u8], i: usize) -> u32
-    requires { ⌜ blockBytes * i + blockBytes ≤ length (now blocks) ⌝ }
-    ensures { λ r. ⌜ r ≡ refusalAt payloadStart (now (blocks .entry)) (now (label .entry)) i ⌝ }
-{
-    let start = BLOCK * i;
-    let end = start + BLOCK;
-    let first = &blocks[0..BLOCK];
-    turn_refusal(&first[0..12], label, i, &blocks[start..end])
-}
-
-// The payload bits in block i.
-fn count_at(blocks: &[u8], i: usize) -> usize
-    requires { ⌜ blockBytes * i + blockBytes ≤ length (now blocks) ⌝ }
-    ensures { λ r. ⌜ r ≡ countOf (blockAt (now (blocks .entry)) i) ⌝ }
-{
-    let start = BLOCK * i;
-    let end = start + BLOCK;
-    fields::pair_at(&blocks[start..end], 14)
-}
-
 pub struct Run {
     pub kept: usize,
     pub ended: u32,
@@ -76,14 +73,16 @@ pub fn longest_run(blocks: &[u8], label: &[u8]) -> Run
     let whole = blocks.len() / BLOCK;
     let mut i = 0;
     while i < whole {
-        let refusal = refusal_at(blocks, label, i);
+        let first = said_by(block_at(blocks, 0));
+        let block = block_at(blocks, i);
+        let refusal = turn_refusal(first, label, i, block);
         if refusal > 0 {
             return Run {
                 kept: i,
                 ended: refusal,
             };
         }
-        if count_at(blocks, i) != PAYLOAD_BITS {
+        if fields::pair_at(block, 14) != PAYLOAD_BITS {
             return Run {
                 kept: i + 1,
                 ended: 0,
@@ -102,7 +101,7 @@ pub fn bits_kept(blocks: &[u8], kept: usize) -> usize
     ensures { λ r. ⌜ r ≡ bitsKept payloadStart (now (blocks .entry)) kept ⌝ }
 {
     let last = kept - 1;
-    PAYLOAD_BITS * last + count_at(blocks, last)
+    PAYLOAD_BITS * last + fields::pair_at(block_at(blocks, last), 14)
 }
 
 // The first n payload bytes of block i, in their place; what lies before and behind is untouched.
@@ -112,9 +111,7 @@ fn put_payload(room: &mut [u8], blocks: &[u8], i: usize, n: usize)
     requires { ⌜ n ≤ payloadBytes payloadStart ⌝ }
     ensures { λ _. ⌜ now (room .exit) ≡ take (payloadBytes payloadStart * i) (now (room .entry)) ++ (take n (payloadOf payloadStart (blockAt (now (blocks .entry)) i)) ++ drop (payloadBytes payloadStart * i + n) (now (room .entry))) ⌝ }
 {
-    let from = BLOCK * i;
-    let to = from + BLOCK;
-    let block = &blocks[from..to];
+    let block = block_at(blocks, i);
     let payload = &block[PAYLOAD..CHECKS];
     let start = PAYLOAD_BYTES * i;
     let end = start + n;

@@ -11,7 +11,7 @@ use borrow.Author.Tests.{eq-eqb, leb-true}
 use Rattle.paper.specs.Sizes.{unless, judged}
 use Rattle.paper.specs.Block.{isLabel, blockBytes, payloadBytes, payloadStart, checksRight, fieldsRight, blockRefusal}
 use Rattle.paper.specs.Record.{wholeBlocks, blockAt, said, inTurn, turnRefusal, refusalAt, isFull, Run, runFrom, runOf}
-use Rattle.paper.specs.Jobs.{Read, readingRefusal, readRun, readingJob}
+use Rattle.paper.specs.Jobs.{Read, readingRefusal, readingJob}
 use Rattle.sizes.proofs.Ranges.{both-first}
 
 -- one of some numbers

@@ -9,7 +9,7 @@ use Rattle.bits.proofs.Packing.{packed-length}
 use Rattle.block.proofs.Blocks.{Layout, label-length, rest-length, made-length, front-of-made, label-of-made, number-of-made, count-of-made, payload-of-made, made-passes}
 use Rattle.record_laws.specs.Packing.{unused-back}
 use Rattle.paper.specs.Sizes.{sizeIn, levelsIn, planesIn}
-use Rattle.paper.specs.Bits.{bits, packed}
+use Rattle.paper.specs.Bits.{packed}
 use Rattle.paper.specs.Block.{isLabel, edition, blockBytes, payloadBytes, payloadBits, numberedBlocks, labelOf, numberOf, countOf, payloadOf, blockRefusal}
 use Rattle.paper.specs.Record.{bitsOfBlock, blockOf, said}
 

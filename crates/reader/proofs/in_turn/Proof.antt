@@ -1,9 +1,12 @@
 -- `in_turn`: three tests, each by what its callee ensures.
+use mathlib.Core.List.{List}
+use mathlib.Core.Path.{sym, ap, _∙_}
+use Prim.Native.Nat.{ℕ}
 use native.Mathlib.Omega.{arith}
+use borrow.Author.Tests.{eq-eqb, ne-eqb, not-true, not-false}
+use Rattle.paper.specs.Block.{sameBytes}
 use Rattle.paper.specs.Record.{inTurn}
 use Rattle.reader.proofs.Turn.{first-fails, second-fails, third-decides}
-use borrow.Author.Tests.{eq-eqb, ne-eqb, not-true, not-false}
-use mathlib.Core.Path.{sym, _∙_}
 use Rattle.reader.proofs.in_turn.Statement.{statement}
 use Rattle.reader.proofs.in_turn.Tie as tie
 
@@ -15,14 +18,8 @@ unfolding inTurn
 returns c =
     first-fails _ _ (ne-eqb _ _ (λ e. c .if1 .taken (c .before .pair-at .ensures ∙ e)))
 
-sub-same-bytes : tie.Need-sub-same-bytes
-sub-same-bytes c = omega arith
-
-part-same-bytes-start : tie.Need-part-same-bytes-start
-part-same-bytes-start c = omega arith
-
-part-same-bytes-end : tie.Need-part-same-bytes-end
-part-same-bytes-end c = omega arith
+said-by-requires : tie.Need-said-by-requires
+said-by-requires c κs = omega arith
 
 same-bytes-requires : tie.Need-same-bytes-requires
 same-bytes-requires c κs = omega arith
@@ -30,7 +27,7 @@ same-bytes-requires c κs = omega arith
 returns-2 : tie.Need-returns-2
 unfolding inTurn
 returns-2 c =
-    second-fails _ (eq-eqb _ _ (sym (c .before .before .before .before .pair-at .ensures) ∙ c .before .before .before .if1 .left)) (sym (c .before .same-bytes .ensures) ∙ not-true _ (c .if2 .taken))
+    second-fails _ (eq-eqb _ _ (sym (c .before .before .before .before .pair-at .ensures) ∙ c .before .before .before .if1 .left)) (sym (c .before .same-bytes .ensures ∙ ap (λ (b : List ℕ). sameBytes b (c .before .before .before .before .before .before .before .before .args .first .now)) (c .before .before .said-by .ensures)) ∙ not-true _ (c .if2 .taken))
 
 sub-name : tie.Need-sub-name
 sub-name c = omega arith
@@ -47,7 +44,7 @@ same-bytes-requires-2 c κs = omega arith
 returns-3 : tie.Need-returns-3
 unfolding inTurn
 returns-3 c =
-    c .same-bytes2 .ensures ∙ third-decides _ (eq-eqb _ _ (sym (c .before .before .before .before .before .before .pair-at .ensures) ∙ c .before .before .before .before .before .if1 .left)) (sym (c .before .before .before .same-bytes .ensures) ∙ not-false _ (c .before .before .if2 .left))
+    c .same-bytes2 .ensures ∙ third-decides _ (eq-eqb _ _ (sym (c .before .before .before .before .before .before .pair-at .ensures) ∙ c .before .before .before .before .before .if1 .left)) (sym (c .before .before .before .same-bytes .ensures ∙ ap (λ (b : List ℕ). sameBytes b (c .before .before .before .before .before .before .before .before .before .before .args .first .now)) (c .before .before .before .before .said-by .ensures)) ∙ not-false _ (c .before .before .if2 .left))
 
 pub in-turn-spec : {M : Type 1} → statement M
 in-turn-spec =
@@ -55,9 +52,7 @@ in-turn-spec =
     (tie.spec
     pair-at-requires
     returns
-    sub-same-bytes
-    part-same-bytes-start
-    part-same-bytes-end
+    said-by-requires
     same-bytes-requires
     returns-2
     sub-name

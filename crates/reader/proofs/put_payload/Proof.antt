@@ -5,20 +5,8 @@ use Rattle.reader.proofs.Payload.{payload-put}
 use Rattle.reader.proofs.put_payload.Statement.{statement}
 use Rattle.reader.proofs.put_payload.Tie as tie
 
-mul-from : tie.Need-mul-from
-mul-from c = omega arith
-
-add-to : tie.Need-add-to
-add-to c = omega arith
-
-sub-block : tie.Need-sub-block
-sub-block c = omega arith
-
-part-block-start : tie.Need-part-block-start
-part-block-start c = omega arith
-
-part-block-end : tie.Need-part-block-end
-part-block-end c = omega arith
+block-at-requires : tie.Need-block-at-requires
+block-at-requires c κs = omega arith
 
 sub-payload : tie.Need-sub-payload
 sub-payload c = omega arith
@@ -63,17 +51,14 @@ returns : tie.Need-returns
 unfolding payloadOf
 returns c =
     let S = c .before .before .before .before .before .before .before .before .before in
-    payload-put payloadStart (S .args .blocks .now) (S .args .room .now) (c .before .before .copy-in .last .0) (S .args .i) (S .args .n) (S .pre .0) (S .pre .1 .0) (S .pre .1 .1) (c .before .before .copy-in .ensures)
+    let block = c .before .before .before .before .before .before .block-at in
+    payload-put payloadStart (S .args .blocks .now) (S .args .room .now) (c .before .before .copy-in .last .0) (S .args .i) (S .args .n) (block .result .now) (block .ensures .0) (S .pre .0) (S .pre .1 .0) (S .pre .1 .1) (c .before .before .copy-in .ensures)
 
 pub put-payload-spec : {M : Type 1} → statement M
 put-payload-spec =
     tie.close
     (tie.spec
-    mul-from
-    add-to
-    sub-block
-    part-block-start
-    part-block-end
+    block-at-requires
     sub-payload
     part-payload-start
     part-payload-end
