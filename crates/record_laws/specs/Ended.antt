@@ -36,12 +36,12 @@ turn-refusal-0-8-9-10 start first label i block whole = rw (eq-eqb _ _ whole) (g
     go true false t = inr (inr (inl refl))
     go false f t = inr (inl refl)
 
-module _ (start : ℕ) (s label : List ℕ) where
-  pub whole-block : (i : ℕ) → i < wholeBlocks s → length (blockAt s i) ≡ blockBytes
-  whole-block i h = length-take blockBytes (drop (blockBytes * i) s) ∙ omega (arith, length-drop (blockBytes * i) s)
+pub whole-block : (s : List ℕ) (i : ℕ) → i < wholeBlocks s → length (blockAt s i) ≡ blockBytes
+whole-block s i h = length-take blockBytes (drop (blockBytes * i) s) ∙ omega (arith, length-drop (blockBytes * i) s)
 
+module _ (start : ℕ) (s label : List ℕ) where
   pub refusal-at-0-8-9-10 : (i : ℕ) → i < wholeBlocks s → Ended (refusalAt start s label i)
-  refusal-at-0-8-9-10 i h = turn-refusal-0-8-9-10 start (said (blockAt s 0)) label i (blockAt s i) (whole-block i h)
+  refusal-at-0-8-9-10 i h = turn-refusal-0-8-9-10 start (said (blockAt s 0)) label i (blockAt s i) (whole-block s i h)
 
   ended-from : (left i : ℕ) → i + left ≤ wholeBlocks s → RunEnded (runFrom start s label left i)
   unfolding runFrom
