@@ -1,20 +1,20 @@
 -- A line forward and back: every place, the undoing, and the sizes.
-use mathlib.Core.Path.{_≡_, refl, sym, ap, _∙_}
-use mathlib.Core.List.{List, _++_}
+use mathlib.Core.Path.{_≡_, refl, sym, _∙_}
+use mathlib.Core.List.{List}
 use Prim.Native.Nat.{ℕ, zero, suc, _+_, _*_, _-_, _/_, _<_, min}
 use native.Mathlib.Omega.{arith}
 use native.Mathlib.Nat.{not-suc-le-zero, le-of-suc-le-suc}
-use lib.ListN.{length, length-append, List·getD-append}
-use lib.Seq.{ext-getD, getD-append-add}
+use lib.ListN.{length}
+use lib.Seq.{ext-getD}
 use lib.IntN.{ℤ, pos}
-use Rattle.paper.specs.Lists.{made, at}
+use Rattle.paper.specs.Lists.{at}
 use Rattle.paper.specs.Line.{highAt, lowAt, lineForward, evenAt, oddAt, woven, lineBack}
 use Rattle.integer_laws.specs.Order.{Within}
 use Rattle.lift.proofs.Steps.{odd-high, even-low, high-within, low-within, even-within, odd-within, grow}
 use Rattle.line.specs.Each.{Each}
-use Rattle.list_laws.specs.Made.{length-made, getD-made}
 use Rattle.line.proofs.Sized.{each-below}
 use Rattle.line.proofs.Pairs.{by-halves, by-turns, Paired}
+use Rattle.line.proofs.Halves.{length-halves, halves-low, halves-high, halves-each}
 
 -- ---- samples in turns
 length-woven : (n : ℕ) (f g : ℕ → ℤ) → length (woven n f g) ≡ 2 * n
@@ -45,15 +45,15 @@ module _ (x : List ℤ) (h : ℕ) (e : length x ≡ 2 * h) where
   -- ---- every place
   pub length-forward : length (lineForward x) ≡ 2 * h
   unfolding lineForward
-  length-forward = rw half (length-append (made h (lowAt x)) _ ∙ omega (arith, length-made h (lowAt x), length-made h (highAt x)))
+  length-forward = rw half (length-halves h _ _)
 
   pub forward-low : (i : ℕ) → i < h → at (lineForward x) i ≡ lowAt x i
   unfolding lineForward
-  forward-low i l = rw half (List·getD-append (made h (lowAt x)) (made h (highAt x)) (pos 0) i (omega (arith, length-made h (lowAt x))) ∙ getD-made h (lowAt x) i (pos 0) l)
+  forward-low i l = rw half (halves-low h _ _ i l)
 
   pub forward-high : (i : ℕ) → i < h → at (lineForward x) (h + i) ≡ highAt x i
   unfolding lineForward
-  forward-high i l = rw half (ap (λ (n : ℕ). at (made h (lowAt x) ++ made h (highAt x)) (n + i)) (sym (length-made h (lowAt x))) ∙ getD-append-add (made h (lowAt x)) (made h (highAt x)) i (pos 0) ∙ getD-made h (highAt x) i (pos 0) l)
+  forward-high i l = rw half (halves-high h _ _ i l)
 
   pub length-back : length (lineBack x) ≡ 2 * h
   unfolding lineBack
@@ -107,9 +107,9 @@ unfolding evenAt
 even-at-within y h i E = even-within (E _) (E _) (E _)
 
 -- if a line's values are within M, lows and highs are within 2 M
-pub forward-each : {M : ℕ} (x : List ℤ) (h : ℕ) → length x ≡ 2 * h → Each M x → Each (2 * M) (lineForward x)
-forward-each {M} x h e E = each-below (lineForward x)
-    (λ z l. by-halves (λ z. Within (2 * M) (at (lineForward x) z)) h (λ i k. rw (forward-low x h e i k) (low-at-within x i E)) (λ i k. rw (forward-high x h e i k) (high-at-within x i E)) z (omega (arith, length-forward x h e)))
+pub forward-each : {M : ℕ} (x : List ℤ) → Each M x → Each (2 * M) (lineForward x)
+unfolding lineForward
+forward-each x E = halves-each _ _ _ (λ i. low-at-within x i E) (λ i. high-at-within x i E)
 
 odd-at-within : {M : ℕ} (y : List ℤ) (h i : ℕ) → Each M y → Within (4 * M) (oddAt y h i)
 unfolding oddAt

@@ -2,7 +2,7 @@
 -- by at most a + e + ceil (e / 2).
 use mathlib.Core.Path.{_≡_}
 use mathlib.Core.List.{List}
-use Prim.Native.Nat.{ℕ, _+_, _*_, _-_, _/_, _<_, _≤_, min}
+use Prim.Native.Nat.{ℕ, _+_, _*_, _-_, _/_, _<_, min}
 use native.Mathlib.Omega.{arith}
 use lib.ListN.{length}
 use lib.IntN.{ℤ}

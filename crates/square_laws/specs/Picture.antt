@@ -9,7 +9,7 @@ use lib.Seq.{ext-getD}
 use lib.IntN.{ℤ, pos, _+ℤ_, _-ℤ_, -ℤ-+ℤ-cancel}
 use Rattle.paper.specs.Lists.{at}
 use Rattle.paper.specs.Places.{zOf, rasterOf}
-use Rattle.paper.specs.Square.{levelsBack, lowered, raised, grey, pictured, numbersOf, greysOf}
+use Rattle.paper.specs.Square.{lowered, raised, grey, pictured, numbersOf, greysOf}
 use Rattle.integer_laws.specs.Difference.{_⊖_, ⊖-cases, split}
 use Rattle.integer_laws.specs.Order.{ints}
 use Rattle.places.proofs.Round.{z-below, raster-of-z}
