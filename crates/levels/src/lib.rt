@@ -12,9 +12,7 @@ ghost use Rattle.pass.specs.Way.{way};
 ghost use Rattle.levels.specs.Level.{levelWay, Fitting, forth};
 
 // The largest k of a side 2 ^ k, and the numbers of the longest line.
-const MOST_SIZE: u32 = 8;
-
-const LONGEST: usize = 1 << MOST_SIZE;
+const LONGEST: usize = 1 << sizes::MOST_SIZE;
 
 // One level: rows before columns, or back, columns before rows. `a` and `b` are working room for one line.
 fn passes(j: u32, back: bool, xs: &mut [i32], a: &mut [i32], b: &mut [i32])
