@@ -6,12 +6,12 @@ use mathlib.Core.List.{List, [], _∷_}
 use Prim.Native.Nat.{ℕ, zero, suc, _+_, _*_, _-_, _/_, _%_, _^_, _<_, _≤_}
 use native.Mathlib.Omega.{arith}
 use native.Mathlib.Numerals.{add-one}
-use lib.Dec.{ltb, eqb}
+use lib.Dec.{ltb, leb, eqb}
 use lib.ListN.{length, take, drop, getD, length-take, length-drop, drop-of-length-le}
 use lib.Seq.{drop-cons, getD-take}
-use borrow.Author.Tests.{lt-ltb, le-ltb, ltb-true, ltb-false}
+use borrow.Author.Tests.{lt-ltb, le-ltb, ltb-true, ltb-false, le-leb, lt-leb, eqb-true, eqb-false}
 use Rattle.paper.specs.Lists.{pick}
-use Rattle.paper.specs.Walk.{bitOf, worth, Tape, nextBit}
+use Rattle.paper.specs.Walk.{bitOf, worth, Tape, nextBit, isOne, Decoder}
 use Rattle.paper.specs.Bits.{bits}
 use Rattle.bits.specs.Bits.{kept, withBit, tapeOf, nextAt}
 use Rattle.bits.specs.declared.Answer.{Answer}
@@ -42,6 +42,17 @@ bits-at (v ∷ s) (suc (suc (suc (suc (suc (suc (suc (suc k)))))))) h =
 pub bit-is : (s : List ℕ) (at : ℕ) → at < 8 * length s → eqb (getD s (at / 8) 0 / 2 ^ (7 - at % 8) % 2) 1 ≡ getD (bits s) at false
 unfolding bitOf
 bit-is s at h = sym (bits-at s at h)
+
+-- b bits and whole bytes
+pub lends-exact : (b bytes : ℕ) → b / 8 ≡ bytes → eqb (b % 8) 0 ≡ leb b (8 * bytes)
+lends-exact b bytes e = go (eqb (b % 8) 0) refl
+  where
+    more : (b bytes : ℕ) → b / 8 ≡ bytes → (b % 8 ≡ 0 → ⊥) → 8 * bytes < b
+    more b bytes e f = omega arith
+
+    go : (t : Bool) → eqb (b % 8) 0 ≡ t → t ≡ leb b (8 * bytes)
+    go true t = sym (le-leb b (8 * bytes) (omega (arith, eqb-true (b % 8) 0 t)))
+    go false t = sym (lt-leb b (8 * bytes) (more b bytes e (eqb-false (b % 8) 0 t)))
 
 -- ---- the tape of the first b bits
 pub tape-long : (src : List ℕ) (b : ℕ) → b ≤ 8 * length src → length (take b (bits src)) ≡ b
@@ -96,6 +107,22 @@ read-next {src} {b} {at} {r} k e = subst (ReadBit src b at) (sym e) (go (ltb at 
     go : (o : Bool) → ltb at b ≡ o → ReadBit src b at (pick o (record { one = getD (bits src) at false; at = at + 1 }) (record { one = false; at = b + 1 }))
     go true o = read-yes src b at (ltb-true at b o) k
     go false o = read-no src b at (ltb-false at b o)
+
+-- a 1 was heard; a bit that was missed counts as 0
+module _ {bytes : List ℕ} {b at : ℕ} {r : Answer} (R : ReadBit bytes b at r) where
+  pub heard-is : isOne Decoder (heard b (r .one) (r .at)) ≡ r .one
+  heard-is = go (ltb b (r .at)) refl
+    where
+      go : (m : Bool) → ltb b (r .at) ≡ m → isOne Decoder (pick m none (some (r .one))) ≡ r .one
+      go true e = sym (R .quiet (ltb-true b (r .at) e))
+      go false e = refl
+
+  pub heard-one : r .one ≡ true → heard b (r .one) (r .at) ≡ some true
+  heard-one e = go (ltb b (r .at)) refl
+    where
+      go : (m : Bool) → ltb b (r .at) ≡ m → pick m none (some (r .one)) ≡ some true
+      go true k = absurd (let f : r .one ≡ false = R .quiet (ltb-true b (r .at) k) in let z : _≡_ {A = ℕ} 0 1 = cc in omega arith)
+      go false k = ap some e
 
 -- two places up to b + 1 with the same tape are the same place
 pub place-settled : (src : List ℕ) (b r s : ℕ) → b ≤ 8 * length src → r ≤ b + 1 → s ≤ b + 1 → tapeOf src b r ≡ tapeOf src b s → r ≡ s

@@ -1,10 +1,25 @@
-// Packed bits: the bit at a place, the next of the first b bits, and one bit put. Bits fill bytes from the high end.
+// Packed bits: how many are lent, the bit at a place, the next of the first b bits, and one bit put. Bits fill bytes from the high end.
 ghost use mathlib.Core.Path.{_≡_};
 ghost use mathlib.Core.Bool.{false};
 ghost use Prim.Native.Nat.{_+_, _*_, _^_, _<_, _≤_};
+ghost use lib.Dec.{leb};
 ghost use lib.ListN.{length, getD};
 ghost use Rattle.paper.specs.Bits.{bits};
 ghost use Rattle.bits.specs.Bits.{Sink, withBit, put1, nextAt};
+
+// b bits are not beyond so many bytes. Compared by whole bytes, since eight times the bytes may not fit.
+pub fn lends(bytes: usize, b: usize) -> bool
+    ensures { λ r. ⌜ r ≡ leb b (8 * bytes) ⌝ }
+{
+    let whole = b / 8;
+    if whole < bytes {
+        return true;
+    }
+    if whole > bytes {
+        return false;
+    }
+    b % 8 == 0
+}
 
 // The bit at a place.
 pub fn bit_at(s: &[u8], at: usize) -> bool

@@ -8,14 +8,15 @@ use lib.Dec.{leb, eqb}
 use lib.IntN.{ℤ}
 use lib.ListN.{length, take}
 use borrow.Author.Tests.{eqb-true}
-use Rattle.paper.specs.Sizes.{mostPlanes, sizeIn, levelsIn, numbersIn, unless}
-use Rattle.paper.specs.Walk.{largest, bitsNeeded, planeCount, codeOf}
+use Rattle.paper.specs.Sizes.{mostSize, mostPlanes, numbersIn, unless}
+use Rattle.paper.specs.Walk.{largest, bitsNeeded, planeCount, Coder, walkPlanes, depth, codeOf}
 use Rattle.paper.specs.Bits.{laid}
 use Rattle.paper.specs.Jobs.{sizesRefusal, codingRefusal, writtenOf, codingJob}
+use Rattle.sizes.proofs.Ranges.{size-high, levels-less}
 use Rattle.sizes.proofs.Refusals.{row-passed, rows-left, size-accepted, levels-accepted, sizes-left, sizes-stand, sizes-leave, refused-is, done-is}
-use Rattle.bits.specs.Bits.{Sink, wrote}
+use Rattle.bits.specs.Bits.{Sink}
 use Rattle.bits.proofs.Written.{wrote-laid}
-use Rattle.coding.specs.Planes.{planesBits}
+use Rattle.set_coder.specs.Coded.{Coded}
 
 -- ---- the rows
 pub sizes-row : (k L r : ℕ) (xs : List ℤ) → r ≡ sizesRefusal k L 0 → 0 < r → r ≡ codingRefusal k L xs
@@ -30,8 +31,8 @@ later-rows k L r xs square range e z s n = (λ i. unless 3 (sym s i) (unless 4 (
 -- no row applies
 pub record Accepted (k L : ℕ) (xs : List ℤ) : Type 0 where
   pub none : codingRefusal k L xs ≡ 0
-  pub size : sizeIn k ≡ true
-  pub levels : levelsIn k L ≡ true
+  pub less : L < k
+  pub high : k ≤ mostSize
   pub square : length xs ≡ 4 ^ k
   pub range : numbersIn xs ≡ true
 
@@ -45,8 +46,8 @@ accepted k L r xs e z =
     let m : rows ≡ 0 = sizes-left k L rows n in
     record {
       none = n;
-      size = size-accepted k L rows n;
-      levels = levels-accepted k L rows n;
+      less = levels-less k L (levels-accepted k L rows n);
+      high = size-high k (size-accepted k L rows n);
       square = eqb-true (length xs) (4 ^ k) (row-passed 2 square (unless 4 range 0) m);
       range = row-passed 3 range 0 (rows-left 2 square (unless 4 range 0) m);
     }
@@ -74,12 +75,13 @@ module _ (k L : ℕ) (xs : List ℤ) (limit : ℕ) (bytes : List ℕ) where
       ∙ ap (λ r. record { refusal = r; written = 0; n = 0; bytes = bytes }) (sym e)
 
   pub done : (n most written : ℕ) (exit : List ℕ) → Accepted k L xs → n ≡ planeCount xs → most ≡ min limit (8 * length bytes)
-      → _≡_ {A = Sink} (exit, written) (wrote most (planesBits k L n xs) (bytes, 0)) → codingJob k L xs limit bytes ≡ record { refusal = 0; written = written; n = n; bytes = exit }
+      → Coded (walkPlanes Coder (depth k L) L n xs) most (bytes, 0) (xs, 0) (exit, written) → codingJob k L xs limit bytes ≡ record { refusal = 0; written = written; n = n; bytes = exit }
   unfolding codingJob writtenOf codeOf
   done n most written exit A is-n is-most w =
-      let l = take most (planesBits k L n xs) in
-      let e : l ≡ writtenOf k L xs limit bytes = λ i. take (is-most i) (planesBits k L (is-n i) xs) in
-      let v : _≡_ {A = Sink} (laid l bytes, length l) (exit, written) = sym (w ∙ wrote-laid most (planesBits k L n xs) bytes (omega arith)) in
+      let coded : ℕ → List Bool = λ n. (walkPlanes Coder (depth k L) L n xs) .1 in
+      let l = take most (coded n) in
+      let e : l ≡ writtenOf k L xs limit bytes = λ i. take (is-most i) (coded (is-n i)) in
+      let v : _≡_ {A = Sink} (laid l bytes, length l) (exit, written) = sym (w .put ∙ wrote-laid most (coded n) bytes (omega arith)) in
       done-is (codingRefusal k L xs) _ _ (A .none)
       ∙ (λ i. record { refusal = 0; written = length (sym e i); n = sym is-n i; bytes = laid (sym e i) bytes })
       ∙ (λ i. record { refusal = 0; written = v i .1; n = n; bytes = v i .0 })

@@ -1,13 +1,7 @@
-// Coding, with a bit limit: the job with its refusals, over the planes from the highest down.
+// The job coding, with a bit limit: the refusals, then the planes coded into the bytes lent.
 ghost use mathlib.Core.Path.{_≡_};
-ghost use mathlib.Core.Bool.{true};
-ghost use Prim.Native.Nat.{suc, _*_, _^_, _≤_, min};
-ghost use lib.ListN.{length};
-ghost use Rattle.paper.specs.Sizes.{mostPlanes, sizeIn, levelsIn, numbersIn};
-ghost use Rattle.paper.specs.Walk.{depth};
+ghost use Prim.Native.Nat.{_*_, min};
 ghost use Rattle.paper.specs.Jobs.{codingRefusal, codingJob};
-ghost use Rattle.bits.specs.Bits.{Sink, wrote};
-ghost use Rattle.coding.specs.Planes.{planesBits};
 
 #[repr(C)]
 pub struct Written {
@@ -37,56 +31,22 @@ fn room(limit: usize, lent: usize) -> usize
     if limit / 8 < lent { limit } else { 8 * lent }
 }
 
-// (S / 2^L)², the places of the first set.
-fn first_places(k: u32, levels: u32) -> usize
-    requires { ⌜ sizeIn k ≡ true ⌝ }
-    requires { ⌜ levelsIn k levels ≡ true ⌝ }
-    ensures { λ r. ⌜ r ≡ 4 ^ suc (depth k levels) ⌝ }
-{
-    1usize << (2 * (k - levels))
-}
-
-// Planes n - 1 down to 0, from the first bit on.
-fn code_planes(
-    k: u32,
-    levels: u32,
-    numbers: &[i32],
-    n: u32,
-    bytes: &mut [u8],
-    limit: usize,
-) -> usize
-    requires { ⌜ (sizeIn k ≡ true) × (levelsIn k levels ≡ true) ⌝ }
-    requires { ⌜ (length (now numbers) ≡ 4 ^ k) × (numbersIn (now numbers) ≡ true) ⌝ }
-    requires { ⌜ n ≤ mostPlanes ⌝ }
-    requires { ⌜ limit ≤ 8 * length (now bytes) ⌝ }
-    ensures { λ r. ⌜ _≡_ {A = Sink} (now (bytes .exit), r) (wrote limit (planesBits k levels n (now (numbers .entry))) (now (bytes .entry), 0)) ⌝ }
-{
-    let first = first_places(k, levels);
-    let mut p = n;
-    let mut at = 0;
-    while p > 0 {
-        let next = p - 1;
-        at = coder::code_plane(numbers, first, next, bytes, at, limit);
-        p = next;
-    }
-    at
-}
-
 // Codes wavelet numbers into the bytes lent: the first min(limit, 8 × bytes lent, total) bits.
 pub fn code(k: u32, levels: u32, numbers: &[i32], limit: usize, bytes: &mut [u8]) -> Written
     ensures { λ r. ⌜ codingJob k levels (now (numbers .entry)) limit (now (bytes .entry)) ≡ record { refusal = r .refusal; written = r .bits; n = r .n; bytes = now (bytes .exit) } ⌝ }
 {
-    let r = coding_refusal(k, levels, numbers);
-    if r > 0 {
+    let refused = coding_refusal(k, levels, numbers);
+    if refused > 0 {
         return Written {
-            refusal: r,
+            refusal: refused,
             bits: 0,
             n: 0,
         };
     }
     let n = sizes::plane_count(numbers);
+    let first = shapes::first_set(k, levels);
     let most = room(limit, bytes.len());
-    let written = code_planes(k, levels, numbers, n, bytes, most);
+    let written = plane_coder::code_planes(numbers, first, n, bytes, most);
     Written {
         refusal: 0,
         bits: written,

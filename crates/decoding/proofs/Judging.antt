@@ -1,11 +1,11 @@
--- How a decoding is refused: row by row, and b against the bytes lent.
+-- How a decoding is refused, row by row.
 use mathlib.Core.Path.{_≡_, refl, sym, ap, _∙_}
 use mathlib.Core.Bool.{Bool, true, false}
 use mathlib.Core.List.{List}
-use Prim.Native.Nat.{ℕ, zero, suc, _*_, _-_, _/_, _%_, _^_, _<_, _≤_}
+use Prim.Native.Nat.{ℕ, suc, _*_, _^_, _<_, _≤_}
 use native.Mathlib.Omega.{arith}
 use lib.Dec.{leb, eqb}
-use borrow.Author.Tests.{eq-eqb, ne-eqb, le-leb, lt-leb, leb-true, eqb-true, eqb-false}
+use borrow.Author.Tests.{eq-eqb, ne-eqb, leb-true, eqb-true}
 use lib.IntN.{ℤ}
 use lib.ListN.{length, take}
 use Rattle.paper.specs.Sizes.{planesIn, unless}
@@ -14,27 +14,6 @@ use Rattle.paper.specs.Walk.{decodeOf, Settled}
 use Rattle.paper.specs.Jobs.{sizesRefusal, decodingRefusal, decodingJob, settledJob}
 use Rattle.sizes.proofs.Ranges.{size-high, levels-less, planes-few}
 use Rattle.sizes.proofs.Refusals.{row-passed, rows-left, size-accepted, levels-accepted, sizes-left, sizes-stand, sizes-leave, refused-is, done-is}
-
--- ---- b against the bytes lent
-pub lent-below : (b m : ℕ) → b / 8 < m → true ≡ leb b (8 * m)
-lent-below b m h = sym (le-leb b (8 * m) (omega arith))
-
-pub lent-above : (b m : ℕ) → m < b / 8 → false ≡ leb b (8 * m)
-lent-above b m h = sym (lt-leb b (8 * m) (omega arith))
-
-pub lent-even : (b m : ℕ) → m ≤ b / 8 → b / 8 ≤ m → eqb (b % 8) 0 ≡ leb b (8 * m)
-lent-even b m h g = go (eqb (b % 8) 0) refl
-  where
-    go : (o : Bool) → eqb (b % 8) 0 ≡ o → o ≡ leb b (8 * m)
-    go true e = sym (le-leb b (8 * m) (omega (arith, eqb-true (b % 8) 0 e)))
-    go false e = sym (lt-leb b (8 * m) (omega (arith, some (eqb-false (b % 8) 0 e))))
-      where
-        some : (b % 8 ≡ 0 → ⊥) → 0 < b % 8
-        some f = pos-of (b % 8) f
-          where
-            pos-of : (x : ℕ) → (x ≡ 0 → ⊥) → 0 < x
-            pos-of zero f = absurd (f refl)
-            pos-of (suc x) f = omega arith
 
 -- ---- the rows
 -- the answer of a refusal that is not above 0

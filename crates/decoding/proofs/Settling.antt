@@ -14,13 +14,13 @@ use lib.Seq.{take-all, take-take, take-suc-set}
 use Rattle.paper.specs.Sizes.{mostSize, mostPlanes}
 use Rattle.paper.specs.Bits.{bits}
 use Rattle.paper.specs.Walk.{Decoder, walkPlanes, depth, decodeOf, Settled}
-use Rattle.sizes.proofs.Counts.{area-shifted}
 use Rattle.walk_laws.specs.Read.{readLimit, read-limit}
 use Rattle.walk_laws.specs.Room.{Room, room-zeros}
 use Rattle.bits.specs.Bits.{tapeOf}
 use Rattle.bits.proofs.OneBit.{bits-length}
-use Rattle.decoder.specs.Walked.{Source}
-use Rattle.planes.specs.Levels.{IsSquare, PlanesRead}
+use Rattle.shapes.specs.Shapes.{IsSquare}
+use Rattle.shapes.proofs.Cuts.{square-of}
+use Rattle.set_decoder.specs.Walked.{Source, Walked}
 
 -- ---- clearing
 pub cleared-more : (xs : List ℤ) (i : ℕ) → i < length xs → take i xs ≡ replicate i (pos 0) → take (i + 1) (ListN.set xs i (pos 0)) ≡ replicate (i + 1) (pos 0)
@@ -29,10 +29,6 @@ cleared-more xs i h e =
 
 pub cleared-all : (xs xs₀ : List ℤ) (i : ℕ) → length xs ≤ i → i ≤ length xs → length xs ≡ length xs₀ → take i xs ≡ replicate i (pos 0) → xs ≡ replicate (length xs₀) (pos 0)
 cleared-all xs xs₀ i h k s e = sym (take-all i xs h) ∙ e ∙ ap (λ n. replicate n (pos 0)) (let z : i ≡ length xs₀ = omega arith in z)
-
--- ---- the first set
-pub first-is : (k L : ℕ) → L < k → k ≤ mostSize → 1 * 2 ^ (2 * (k - L)) % 18446744073709551616 ≡ 4 ^ suc (depth k L)
-first-is k L h g = area-shifted (k - L) (omega arith) ∙ ap (λ j. 4 ^ j) (let z : k - L ≡ suc (k - suc L) = omega arith in z)
 
 -- ---- the planes
 -- sizes that are right, the numbers cleared, the first set, and the bits capped
@@ -47,12 +43,6 @@ pub record Started (k L n : ℕ) (xs : List ℤ) (bytes : List ℕ) (b : ℕ) (z
   pub cap : c ≡ min readLimit b
 
 module _ {k L n : ℕ} {xs : List ℤ} {bytes : List ℕ} {b : ℕ} {zs : List ℤ} {first c : ℕ} (A : Started k L n xs bytes b zs first c) where
-  levels : suc (depth k L) + L ≡ k
-  levels = omega (arith, A .less)
-
-  size : length zs ≡ 4 ^ (suc (depth k L) + L)
-  size = ap length (A .zeros) ∙ length-replicate (length xs) (pos 0) ∙ A .places ∙ ap (λ j. 4 ^ j) (sym levels)
-
   -- ready for the planes
   pub zeros-room : Room n zs
   zeros-room = rw (A .zeros) (room-zeros n (length xs) (A .planes))
@@ -60,8 +50,8 @@ module _ {k L n : ℕ} {xs : List ℤ} {bytes : List ℕ} {b : ℕ} {zs : List �
   pub capped : Source bytes c 0
   capped = record { lent = omega (arith, A .cap, A .lent); missable = omega (arith, A .cap); near = omega arith }
 
-  pub square : IsSquare zs first
-  square = record { d = depth k L; L = L; is = A .set; sized = size }
+  abbrev pub square : IsSquare zs first
+  square = square-of {k = k} {L = L} (A .less) (ap length (A .zeros) ∙ length-replicate (length xs) (pos 0) ∙ A .places) (A .set)
 
   -- bits after the cap change nothing
   capped-bits : decodeOf k L n (take b (bits bytes)) ≡ decodeOf k L n (take c (bits bytes))
@@ -72,13 +62,13 @@ module _ {k L n : ℕ} {xs : List ℤ} {bytes : List ℕ} {b : ℕ} {zs : List �
       shorter false o = let q = leb-false b readLimit o in take-take readLimit b (bits bytes) (omega arith) ∙ ap (λ j. take j (bits bytes)) (let y : readLimit ≡ min readLimit b = omega arith in y)
 
   -- and what is read is the decoding
-  pub decoded : (ys : List ℤ) (unfinished r read : ℕ) → PlanesRead n first zs bytes c ys unfinished r → read ≡ min r c
+  pub decoded : (ys : List ℤ) (unfinished r read : ℕ) → Walked (walkPlanes Decoder (depth k L) L n zs) bytes c 0 (ys, unfinished) r → read ≡ min r c
       → decodeOf k L n (take b (bits bytes)) ≡ record { numbers = ys; unfinished = unfinished; read = read }
   unfolding decodeOf tapeOf
   decoded ys unfinished r read R er =
       let start : zs ≡ replicate (4 ^ k) (pos 0) = A .zeros ∙ ap (λ j. replicate j (pos 0)) (A .places) in
       let run : walkPlanes Decoder (depth k L) L n (replicate (4 ^ k) (pos 0)) (tapeOf bytes c 0) ≡ ((ys, unfinished), tapeOf bytes c r) =
-      ap (λ x. walkPlanes Decoder (depth k L) L n x (tapeOf bytes c 0)) (sym start) ∙ R .read (depth k L) L (A .set) size .is in
+      ap (λ x. walkPlanes Decoder (depth k L) L n x (tapeOf bytes c 0)) (sym start) ∙ R .is in
       let fresh : ltb c 0 ≡ false = le-ltb c 0 (omega arith) in
       let count : length (take c (bits bytes)) - length (drop r (take c (bits bytes))) ≡ read = omega (arith, length-take c (bits bytes), length-drop r (take c (bits bytes)), bits-length bytes, er, A .cap, A .lent) in
       capped-bits

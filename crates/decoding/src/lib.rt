@@ -1,32 +1,16 @@
 // The job decoding: the refusals, then all S² numbers cleared, and the planes read from the first b bits.
 ghost use mathlib.Core.Path.{_≡_};
-ghost use Prim.Native.Nat.{ℕ, suc, _*_, _^_, _<_, _≤_, min};
-ghost use lib.Dec.{leb};
+ghost use Prim.Native.Nat.{_*_, _^_, _<_, _≤_, min};
 ghost use lib.IntN.{pos};
 ghost use lib.ListN.{length, take, replicate};
 ghost use Rattle.paper.specs.Sizes.{mostSize, mostPlanes};
 ghost use Rattle.paper.specs.Bits.{bits};
-ghost use Rattle.paper.specs.Walk.{depth, decodeOf};
+ghost use Rattle.paper.specs.Walk.{decodeOf};
 ghost use Rattle.paper.specs.Jobs.{decodingRefusal, decodingJob};
-use planes::Done;
+use plane_decoder::Done;
 
 // More bits than any decoding reads: of every plane at most 3 for each number.
 const READ_LIMIT: usize = sizes::MOST_PLANES as usize * (3 << (2 * sizes::MOST_SIZE));
-
-// b bits are lent. 8 times the bytes can be more than a place can count, so b is compared by its whole bytes and what
-// is over.
-fn lent(bytes: &[u8], b: usize) -> bool
-    ensures { λ r. ⌜ r ≡ leb b (8 * length (now (bytes .entry))) ⌝ }
-{
-    let whole = b / 8;
-    if whole < bytes.len() {
-        return true;
-    }
-    if whole > bytes.len() {
-        return false;
-    }
-    b % 8 == 0
-}
 
 // Refusals 1, 2, 3, 5 and 6, lowest first, or 0.
 fn refusal(k: u32, levels: u32, n: u32, numbers: &[i32], bytes: &[u8], b: usize) -> u32
@@ -42,16 +26,7 @@ fn refusal(k: u32, levels: u32, n: u32, numbers: &[i32], bytes: &[u8], b: usize)
     if !sizes::planes_in(n) {
         return 5;
     }
-    if lent(bytes, b) { 0 } else { 6 }
-}
-
-// The numbers of the first set.
-fn first_set(k: u32, levels: u32) -> usize
-    requires { ⌜ levels < k ⌝ }
-    requires { ⌜ k ≤ mostSize ⌝ }
-    ensures { λ r. ⌜ r ≡ 4 ^ suc (depth k levels) ⌝ }
-{
-    1usize << (2 * (k - levels))
+    if bits::lends(bytes.len(), b) { 0 } else { 6 }
 }
 
 // Every number 0, whatever was there.
@@ -82,9 +57,9 @@ fn settle(k: u32, levels: u32, n: u32, numbers: &mut [i32], bytes: &[u8], b: usi
     ensures { λ r. ⌜ decodeOf k levels n (take b (bits (now (bytes .entry)))) ≡ record { numbers = now (numbers .exit); unfinished = r .unfinished; read = r .at } ⌝ }
 {
     clear(numbers);
-    let first = first_set(k, levels);
+    let first = shapes::first_set(k, levels);
     let c = smaller(READ_LIMIT, b);
-    let s = planes::read_planes(numbers, first, n, bytes, c);
+    let s = plane_decoder::read_planes(numbers, first, n, bytes, c);
     let read = smaller(s.at, c);
     Done {
         unfinished: s.unfinished,
@@ -103,10 +78,10 @@ pub struct Settled {
 pub fn decode(k: u32, levels: u32, n: u32, numbers: &mut [i32], bytes: &[u8], b: usize) -> Settled
     ensures { λ r. ⌜ decodingJob k levels n (now (numbers .entry)) (now (bytes .entry)) b ≡ record { refusal = r .refusal; unfinished = r .unfinished; read = r .read; numbers = now (numbers .exit) } ⌝ }
 {
-    let r = refusal(k, levels, n, numbers, bytes, b);
-    if r > 0 {
+    let refused = refusal(k, levels, n, numbers, bytes, b);
+    if refused > 0 {
         return Settled {
-            refusal: r,
+            refusal: refused,
             unfinished: 0,
             read: 0,
         };

@@ -11,7 +11,7 @@ ghost use Rattle.square_laws.specs.Near.{grown};
 ghost use Rattle.pass.specs.Way.{way};
 ghost use Rattle.levels.specs.Level.{levelWay, Fitting, forth};
 
-// The largest k of a side 2 ^ k, and the numbers of the longest line.
+// The numbers of the longest line.
 const LONGEST: usize = 1 << sizes::MOST_SIZE;
 
 // One level: rows before columns, or back, columns before rows. `a` and `b` are working room for one line.

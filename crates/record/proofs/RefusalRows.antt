@@ -1,10 +1,8 @@
 -- Rows of the refusal table, judged one after the other.
 use mathlib.Core.Path.{_≡_, refl, sym, ap, _∙_}
 use mathlib.Core.Bool.{Bool, true, false, _&&_}
-use Prim.Native.Nat.{ℕ, suc, _*_, _/_, _%_, _<_}
+use Prim.Native.Nat.{ℕ, suc, _<_}
 use native.Mathlib.Omega.{arith}
-use lib.Dec.{leb, eqb}
-use borrow.Author.Tests.{eqb-true, eqb-false, le-leb, lt-leb}
 use Rattle.paper.specs.Sizes.{unless}
 
 pub row-refused : (r later : ℕ) {b : Bool} → b ≡ false → r ≡ unless r b later
@@ -16,17 +14,6 @@ row-left r later e = ap (λ b. unless r b later) (sym e)
 -- rows 6 and 7, from what their conditions are
 pub rows-judged : {r : ℕ} {a b c d : Bool} → r ≡ unless 6 a (unless 7 b 0) → a ≡ c → b ≡ d → r ≡ unless 6 c (unless 7 d 0)
 rows-judged e f g = e ∙ (λ t. unless 6 (f t) (unless 7 (g t) 0))
-
--- b bits and whole bytes
-pub lends-exact : (b bytes : ℕ) → b / 8 ≡ bytes → eqb (b % 8) 0 ≡ leb b (8 * bytes)
-lends-exact b bytes e = go (eqb (b % 8) 0) refl
-  where
-    more : (b bytes : ℕ) → b / 8 ≡ bytes → (b % 8 ≡ 0 → ⊥) → 8 * bytes < b
-    more b bytes e f = omega arith
-
-    go : (t : Bool) → eqb (b % 8) 0 ≡ t → t ≡ leb b (8 * bytes)
-    go true t = sym (le-leb b (8 * bytes) (omega (arith, eqb-true (b % 8) 0 t)))
-    go false t = sym (lt-leb b (8 * bytes) (more b bytes e (eqb-false (b % 8) 0 t)))
 
 -- two rows of which the first has two conditions, before whatever the later rows say
 pub rows-leave : (r q : ℕ) (a b : Bool) (later : ℕ) → unless (suc r) a (unless (suc q) b 0) ≡ 0 → unless (suc r) a (unless (suc q) b later) ≡ later

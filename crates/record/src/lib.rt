@@ -11,27 +11,13 @@ ghost use Rattle.paper.specs.Jobs.{sizesRefusal, writingJob, Read, readingJob};
 use block::BLOCK;
 use block::PAYLOAD_BYTES;
 
-// b bits are not beyond so many bytes. Compared by whole bytes, since eight times the bytes may not fit.
-fn lends(bytes: usize, b: usize) -> bool
-    ensures { λ r. ⌜ r ≡ leb b (8 * bytes) ⌝ }
-{
-    let whole = b / 8;
-    if whole < bytes {
-        return true;
-    }
-    if whole > bytes {
-        return false;
-    }
-    b % 8 == 0
-}
-
 // Row 6 of record writing, from the bytes in `bytes` and in `room`.
 fn fits(k: u32, n: u32, bytes: usize, b: usize, room: usize) -> bool
     requires { ⌜ sizeIn k ≡ true ⌝ }
     requires { ⌜ planesIn n ≡ true ⌝ }
     ensures { λ r. ⌜ r ≡ (leb b (8 * bytes) && leb b (mostBits k n) && leb (blockBytes * blocksFor b) room) ⌝ }
 {
-    if !lends(bytes, b) {
+    if !bits::lends(bytes, b) {
         return false;
     }
     if b > sizes::most_bits(k, n) {

@@ -29,16 +29,16 @@ returns-3 : tie.Need-returns-3
 returns-3 c =
     planes-refused (c .before .before .before .before .before .before .before .args .k) (c .before .before .before .before .before .before .before .args .levels) (c .before .before .before .before .before .before .before .args .n) (c .before .before .before .before .before .before .before .args .numbers .now) (c .before .before .before .before .before .before .before .args .bytes .now) (c .before .before .before .before .before .before .before .args .b) (none (c .before .before .before .before .before .sizes-refusal .ensures) (c .before .before .before .before .if1 .left)) (c .before .before .if2 .left ∙ c .before .before .before .area .ensures) (sym (c .before .planes-in .ensures) ∙ not-true _ (c .if3 .taken))
 
-lent-requires : tie.Need-lent-requires
-lent-requires c κs = search needs
+lends-requires : tie.Need-lends-requires
+lends-requires c κs = search needs
 
 returns-4 : tie.Need-returns-4
 returns-4 c =
-    bits-judged (c .before .before .before .before .before .before .before .before .before .args .k) (c .before .before .before .before .before .before .before .before .before .args .levels) (c .before .before .before .before .before .before .before .before .before .args .n) (c .before .before .before .before .before .before .before .before .before .args .numbers .now) (c .before .before .before .before .before .before .before .before .before .args .bytes .now) (c .before .before .before .before .before .before .before .before .before .args .b) (none (c .before .before .before .before .before .before .before .sizes-refusal .ensures) (c .before .before .before .before .before .before .if1 .left)) (c .before .before .before .before .if2 .left ∙ c .before .before .before .before .before .area .ensures) (sym (c .before .before .before .planes-in .ensures) ∙ not-false _ (c .before .before .if3 .left)) _ (sym (c .before .lent .ensures) ∙ c .if4 .taken)
+    bits-judged (c .before .before .before .before .before .before .before .before .before .args .k) (c .before .before .before .before .before .before .before .before .before .args .levels) (c .before .before .before .before .before .before .before .before .before .args .n) (c .before .before .before .before .before .before .before .before .before .args .numbers .now) (c .before .before .before .before .before .before .before .before .before .args .bytes .now) (c .before .before .before .before .before .before .before .before .before .args .b) (none (c .before .before .before .before .before .before .before .sizes-refusal .ensures) (c .before .before .before .before .before .before .if1 .left)) (c .before .before .before .before .if2 .left ∙ c .before .before .before .before .before .area .ensures) (sym (c .before .before .before .planes-in .ensures) ∙ not-false _ (c .before .before .if3 .left)) _ (sym (c .before .lends .ensures) ∙ c .if4 .taken)
 
 returns-5 : tie.Need-returns-5
 returns-5 c =
-    bits-judged (c .before .before .before .before .before .before .before .before .before .args .k) (c .before .before .before .before .before .before .before .before .before .args .levels) (c .before .before .before .before .before .before .before .before .before .args .n) (c .before .before .before .before .before .before .before .before .before .args .numbers .now) (c .before .before .before .before .before .before .before .before .before .args .bytes .now) (c .before .before .before .before .before .before .before .before .before .args .b) (none (c .before .before .before .before .before .before .before .sizes-refusal .ensures) (c .before .before .before .before .before .before .if1 .left)) (c .before .before .before .before .if2 .left ∙ c .before .before .before .before .before .area .ensures) (sym (c .before .before .before .planes-in .ensures) ∙ not-false _ (c .before .before .if3 .left)) _ (sym (c .before .lent .ensures) ∙ c .if4 .left)
+    bits-judged (c .before .before .before .before .before .before .before .before .before .args .k) (c .before .before .before .before .before .before .before .before .before .args .levels) (c .before .before .before .before .before .before .before .before .before .args .n) (c .before .before .before .before .before .before .before .before .before .args .numbers .now) (c .before .before .before .before .before .before .before .before .before .args .bytes .now) (c .before .before .before .before .before .before .before .before .before .args .b) (none (c .before .before .before .before .before .before .before .sizes-refusal .ensures) (c .before .before .before .before .before .before .if1 .left)) (c .before .before .before .before .if2 .left ∙ c .before .before .before .before .before .area .ensures) (sym (c .before .before .before .planes-in .ensures) ∙ not-false _ (c .before .before .if3 .left)) _ (sym (c .before .lends .ensures) ∙ c .if4 .left)
 
 pub refusal-spec : {M : Type 1} → statement M
 refusal-spec =
@@ -50,6 +50,6 @@ refusal-spec =
     returns-2
     planes-in-requires
     returns-3
-    lent-requires
+    lends-requires
     returns-4
     returns-5)

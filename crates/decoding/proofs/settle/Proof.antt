@@ -29,7 +29,7 @@ returns : tie.Need-returns
 returns c =
     let S = c .before .before .before .before .before .before .before .before .before .before in
     let A : Started (S .args .k) (S .args .levels) (S .args .n) (S .args .numbers .now) (S .args .bytes .now) (S .args .b) _ _ _ = record { less = S .pre .0; small = S .pre .1 .0; planes = S .pre .1 .1 .0; places = S .pre .1 .1 .1 .0; lent = S .pre .1 .1 .1 .1; zeros = c .before .before .before .before .before .before .before .clear .ensures; set = c .before .before .before .before .before .first-set .ensures; cap = c .before .before .before .before .smaller .ensures } in
-    decoded A _ _ _ _ (c .before .before .read-planes .ensures) (c .smaller2 .ensures)
+    decoded A _ _ _ _ (c .before .before .read-planes .ensures (square A)) (c .smaller2 .ensures)
 
 pub settle-spec : {M : Type 1} → statement M
 settle-spec =

@@ -1,5 +1,0 @@
-pub mod Signs
-pub mod Bits
-pub mod Fours
-pub mod Parts
-pub mod Quarters
