@@ -9,7 +9,7 @@ use lib.IntN.{ℤ}
 use lib.ListN.{length}
 use Rattle.paper.specs.Sizes.{mostSize}
 use Rattle.paper.specs.Walk.{depth}
-use Rattle.sizes.proofs.Counts.{shifted}
+use Rattle.sizes.proofs.Counts.{area-shifted}
 use Rattle.shapes.specs.Shapes.{IsSet, IsRest, IsSquare}
 
 -- ---- powers of 4
@@ -131,7 +131,7 @@ square-same s K = record { d = K .d; L = K .L; is = K .is; sized = s ∙ K .size
 
 -- the sizes' first set, and S² numbers
 pub shifted-set : (k L : ℕ) → L < k → k ≤ mostSize → 1 * 2 ^ (2 * (k - L)) % 18446744073709551616 ≡ 4 ^ suc (depth k L)
-shifted-set k L h g = shifted (k - L) (omega arith) ∙ ap (λ j. 4 ^ j) (let z : k - L ≡ suc (k - suc L) = omega arith in z)
+shifted-set k L h g = area-shifted (k - L) (omega arith) ∙ ap (λ j. 4 ^ j) (let z : k - L ≡ suc (k - suc L) = omega arith in z)
 
 abbrev pub square-of : {k L q : ℕ} {xs : List ℤ} → L < k → length xs ≡ 4 ^ k → q ≡ 4 ^ suc (depth k L) → IsSquare xs q
 square-of {k} {L} h n e = record { d = depth k L; L = L; is = e; sized = n ∙ ap (λ j. 4 ^ j) (let z : k ≡ suc (depth k L) + L = omega arith in z) }
