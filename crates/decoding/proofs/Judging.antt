@@ -8,7 +8,7 @@ use lib.Dec.{leb, eqb}
 use borrow.Author.Tests.{eq-eqb, ne-eqb, leb-true, eqb-true}
 use lib.IntN.{ℤ}
 use lib.ListN.{length, take}
-use Rattle.paper.specs.Sizes.{planesIn, unless}
+use Rattle.paper.specs.Sizes.{mostSize, mostPlanes, planesIn, unless}
 use Rattle.paper.specs.Bits.{bits}
 use Rattle.paper.specs.Walk.{decodeOf, Settled}
 use Rattle.paper.specs.Jobs.{sizesRefusal, decodingRefusal, decodingJob, settledJob}
@@ -43,8 +43,8 @@ module _ (k L n : ℕ) (numbers : List ℤ) (bytes : List ℕ) (b : ℕ) where
 -- what is right where nothing is refused
 pub record Right (k L n : ℕ) (numbers : List ℤ) (bytes : List ℕ) (b : ℕ) : Type 0 where
   pub less : L < k
-  pub size : k ≤ 8
-  pub planes : n ≤ 18
+  pub size : k ≤ mostSize
+  pub planes : n ≤ mostPlanes
   pub places : length numbers ≡ 4 ^ k
   pub bits : b ≤ 8 * length bytes
 
