@@ -10,7 +10,7 @@ coding-refusal-requires : tie.Need-coding-refusal-requires
 coding-refusal-requires c κs = search needs
 
 returns : tie.Need-returns
-returns c = refused _ _ _ _ _ _ (c .before .coding-refusal .ensures) (c .if1 .taken)
+returns c = refused _ _ _ _ _ _ (c .before .coding-refusal .ensures) (omega (arith, c .if1 .taken))
 
 plane-count-requires : tie.Need-plane-count-requires
 plane-count-requires c κs =

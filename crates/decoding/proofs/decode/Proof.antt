@@ -1,4 +1,5 @@
 -- `decode` meets its contract.
+use native.Mathlib.Omega.{arith}
 use borrow.Author.Needs.{needs}
 use Rattle.decoding.proofs.Judging.{job-refused, job-done, none, right}
 use Rattle.decoding.proofs.decode.Statement.{statement}
@@ -12,7 +13,7 @@ same-length c = search needs
 
 returns : tie.Need-returns
 returns c =
-    job-refused (c .before .before .before .before .args .k) (c .before .before .before .before .args .levels) (c .before .before .before .before .args .n) (c .before .before .before .before .args .numbers .now) (c .before .before .before .before .args .bytes .now) (c .before .before .before .before .args .b) _ (c .before .refusal .ensures) (c .if1 .taken)
+    job-refused (c .before .before .before .before .args .k) (c .before .before .before .before .args .levels) (c .before .before .before .before .args .n) (c .before .before .before .before .args .numbers .now) (c .before .before .before .before .args .bytes .now) (c .before .before .before .before .args .b) _ (c .before .refusal .ensures) (omega (arith, c .if1 .taken))
 
 settle-requires : tie.Need-settle-requires
 settle-requires c κs =
