@@ -27,7 +27,7 @@ loop-less : tie.Need-loop-less Inv-loop μ-loop
 loop-less c = search needs
 
 loop-again : tie.Need-loop-again Inv-loop μ-loop
-loop-again c = before-next (c .before .before .before .before .before .loop .inv) _ _ (c .before .before .before .before .loop-test .taken) (c .before .before .code-plane .ensures) (c .before .before .code-plane .kept .1 .1 .1 .0)
+loop-again c = before-next (c .before .before .before .before .before .loop .inv) _ _ (omega (arith, c .before .before .before .before .loop-test .taken)) (c .before .before .code-plane .ensures) (c .before .before .code-plane .kept .1 .1 .1 .0)
 
 same-length : tie.Need-same-length Inv-loop μ-loop
 same-length c = search needs
