@@ -13,9 +13,13 @@ use Rattle.paper.specs.Sizes.{sizeIn, levelsIn, planesIn, numbersIn, mostBits, 
 use Rattle.paper.specs.Block.{blockBytes, isLabel, payloadBytes, payloadStart, checksRight, fieldsRight, blockRefusal}
 use Rattle.paper.specs.Record.{blocksFor, wholeBlocks, blockAt, said, inTurn, turnRefusal}
 use Rattle.paper.specs.Jobs.{sizesRefusal, isSquare, Forward, forwardRefusal, forwardJob, Coding, codingRefusal, codingJob, Decoding, decodingRefusal, decodingJob, Inverse, inverseRefusal, inverseJob, Writing, writingRefusal, writingJob, Read, readingRefusal, readingJob, checkJob}
-use Rattle.sizes.proofs.Ranges.{both-first}
-use Rattle.label.specs.Table.{Row, row, Lowest, Refuses, forwardRows, codingRows, decodingRows, inverseRows, writingRows, readingRows, checkRows}
+use Rattle.record_laws.specs.Ended.{whole-block}
+use Rattle.label.specs.Table.{Row, row, Lowest, leavesSomething, Refuses, forwardRows, codingRows, decodingRows, inverseRows, writingRows, readingRows, checkRows}
 use Rattle.label.proofs.Rows.{first, lowest, judged-refuses}
+
+-- No refusal leaves anything behind.
+pub nothing-left : (r : ℕ) → leavesSomething r ≡ false
+nothing-left r = refl
 
 -- ---- forward
 pub forward-refuses : (k L : ℕ) (picture : List ℕ) (numbers : List ℤ)
@@ -48,10 +52,6 @@ unfolding writingJob writingRefusal sizesRefusal
 writing-refuses k L n label bytes b room = judged-refuses _ _ _ _ _ (λ r l. refl) (λ r. refl) refl _ refl refl
 
 -- ---- record reading
--- block 0 of 512 bytes or more lent is a whole block
-whole-first : (s : List ℕ) → blockBytes ≤ length s → eqb (length (blockAt s 0)) blockBytes ≡ true
-whole-first s h = eq-eqb (length (blockAt s 0)) blockBytes (length-take blockBytes (drop 0 s) ∙ omega arith)
-
 module _ (s label room : List ℕ) where
   reading-first : readingRefusal s label room ≡ first (readingRows s label room)
   unfolding readingRefusal turnRefusal blockRefusal
@@ -69,7 +69,7 @@ module _ (s label room : List ℕ) where
       go : (a b : Bool) → leb blockBytes (length s) ≡ a
           → unless 6 (a && b) (unless 7 (isLabel label) (unless (unless 6 (eqb (length B) blockBytes) (unless 8 (checksRight B) (unless 9 (fieldsRight payloadStart B) 0))) (eqb (unless 6 (eqb (length B) blockBytes) (unless 8 (checksRight B) (unless 9 (fieldsRight payloadStart B) 0))) 0) (unless 10 (inTurn (said B) label 0 B) 0)))
           ≡ unless 6 (a && b) (unless 7 (isLabel label) (unless 8 (checksRight B) (unless 9 (fieldsRight payloadStart B) (unless 10 (inTurn (said B) label 0 B) 0))))
-      go true true e = ap (unless 7 (isLabel label)) (turn (eqb (length B) blockBytes) (checksRight B) (fieldsRight payloadStart B) (inTurn (said B) label 0 B) (whole-first s (leb-true blockBytes (length s) e)))
+      go true true e = ap (unless 7 (isLabel label)) (turn (eqb (length B) blockBytes) (checksRight B) (fieldsRight payloadStart B) (inTurn (said B) label 0 B) (eq-eqb (length B) blockBytes (whole-block s 0 (omega (arith, leb-true blockBytes (length s) e)))))
       go true false e = refl
       go false b e = refl
 

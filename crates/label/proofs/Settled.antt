@@ -1,6 +1,7 @@
--- The code does the jobs, and is settled in full. Both are said of each function's own contract, as the checker reads it from
--- src/lib.rt (`Post` of the module `Reads`): at any arguments, an outcome that meets it, the answer with every lent place at
--- exit, is the job's; so no second outcome meets it, refused or not. A contract that said less would leave this unproved.
+-- The code takes whatever it is given, does the jobs, and is settled in full. This is said of each function's own contract, as the
+-- checker reads it from src/lib.rt (`Pre` and `Post` of the module `Reads`): it asks nothing of any arguments; an outcome that
+-- meets it, the answer with every lent place at exit, is the job's; so no second outcome meets it, refused or not. A contract
+-- that asked more or said less would leave this unproved.
 use mathlib.Core.Path.{_≡_, sym, _∙_}
 use Prim.Native.Nat.{ℕ}
 use denote.Ref.{now}
@@ -35,6 +36,10 @@ use Rattle.label.proofs.check.Reads as check-contract
 abbrev pub Does : {A R S O : Type 0} → (A → R → S → Type 0) → (A → O) → (R → S → O) → Type 0
 Does {A} {R} {S} Post job outcome = (a : A) (r : R) (s : S) → Post a r s → job a ≡ outcome r s
 
+-- whatever the arguments are, a contract asks nothing of them
+abbrev pub Takes : {A : Type 0} → (A → Type 0) → Type 0
+Takes {A} Pre = (a : A) → Pre a
+
 -- two outcomes that meet a contract at the same arguments are one
 abbrev pub OneOutcome : {A R S O : Type 0} → (A → R → S → Type 0) → (R → S → O) → Type 0
 OneOutcome {A} {R} {S} Post outcome = (a : A) (r q : R) (s t : S) → Post a r s → Post a q t → outcome r s ≡ outcome q t
@@ -49,6 +54,9 @@ forward-job κs a = forwardJob (a .0) (a .1 .0) (now (a .1 .1 .0)) (now (a .1 .1
 abbrev pub forward-outcome : (κs : Lfts 2) → ResD forward-fn.signature κs → AtExit (endedOf 2 forward-kinds.ps forward-kinds.r) κs → Forward
 forward-outcome κs r s = record { refusal = r .refusal; n = r .n; numbers = now (s .1 .1 .1 .0) }
 
+pub forward-takes : (κs : Lfts 2) → Takes (forward-contract.Pre κs)
+forward-takes κs a = tt
+
 pub forward-does : (κs : Lfts 2) → Does (forward-contract.Post κs) (forward-job κs) (forward-outcome κs)
 forward-does κs a r s x = x
 
@@ -61,6 +69,9 @@ code-job κs a = codingJob (a .0) (a .1 .0) (now (a .1 .1 .0)) (a .1 .1 .1 .0) (
 
 abbrev pub code-outcome : (κs : Lfts 2) → ResD code-fn.signature κs → AtExit (endedOf 2 code-kinds.ps code-kinds.r) κs → Coding
 code-outcome κs r s = record { refusal = r .refusal; written = r .bits; n = r .n; bytes = now (s .1 .1 .1 .1 .0) }
+
+pub code-takes : (κs : Lfts 2) → Takes (code-contract.Pre κs)
+code-takes κs a = tt
 
 pub code-does : (κs : Lfts 2) → Does (code-contract.Post κs) (code-job κs) (code-outcome κs)
 code-does κs a r s x = x
@@ -75,6 +86,9 @@ decode-job κs a = decodingJob (a .0) (a .1 .0) (a .1 .1 .0) (now (a .1 .1 .1 .0
 abbrev pub decode-outcome : (κs : Lfts 2) → ResD decode-fn.signature κs → AtExit (endedOf 2 decode-kinds.ps decode-kinds.r) κs → Decoding
 decode-outcome κs r s = record { refusal = r .refusal; unfinished = r .unfinished; read = r .read; numbers = now (s .1 .1 .1 .0) }
 
+pub decode-takes : (κs : Lfts 2) → Takes (decode-contract.Pre κs)
+decode-takes κs a = tt
+
 pub decode-does : (κs : Lfts 2) → Does (decode-contract.Post κs) (decode-job κs) (decode-outcome κs)
 decode-does κs a r s x = x
 
@@ -87,6 +101,9 @@ inverse-job κs a = inverseJob (a .0) (a .1 .0) (now (a .1 .1 .0)) (now (a .1 .1
 
 abbrev pub inverse-outcome : (κs : Lfts 3) → ResD inverse-fn.signature κs → AtExit (endedOf 3 inverse-kinds.ps inverse-kinds.r) κs → Inverse
 inverse-outcome κs r s = record { refusal = r; picture = now (s .1 .1 .1 .0); room = now (s .1 .1 .1 .1 .0) }
+
+pub inverse-takes : (κs : Lfts 3) → Takes (inverse-contract.Pre κs)
+inverse-takes κs a = tt
 
 pub inverse-does : (κs : Lfts 3) → Does (inverse-contract.Post κs) (inverse-job κs) (inverse-outcome κs)
 inverse-does κs a r s x = x
@@ -101,6 +118,9 @@ write-job κs a = writingJob (a .0) (a .1 .0) (a .1 .1 .0) (now (a .1 .1 .1 .0))
 abbrev pub write-outcome : (κs : Lfts 3) → ResD write-fn.signature κs → AtExit (endedOf 3 write-kinds.ps write-kinds.r) κs → Writing
 write-outcome κs r s = record { refusal = r .refusal; blocks = r .blocks; room = now (s .1 .1 .1 .1 .1 .1 .0) }
 
+pub write-takes : (κs : Lfts 3) → Takes (write-contract.Pre κs)
+write-takes κs a = tt
+
 pub write-does : (κs : Lfts 3) → Does (write-contract.Post κs) (write-job κs) (write-outcome κs)
 write-does κs a r s x = x
 
@@ -114,6 +134,9 @@ read-job κs a = readingJob (now (a .0)) (now (a .1 .0)) (now (a .1 .1 .0))
 abbrev pub read-outcome : (κs : Lfts 3) → ResD read-fn.signature κs → AtExit (endedOf 3 read-kinds.ps read-kinds.r) κs → Read
 read-outcome κs r s = record { refusal = r .refusal; k = r .k; L = r .levels; n = r .n; blocks = r .blocks; bits = r .bits; ended = r .ended; room = now (s .1 .1 .0) }
 
+pub read-takes : (κs : Lfts 3) → Takes (read-contract.Pre κs)
+read-takes κs a = tt
+
 pub read-does : (κs : Lfts 3) → Does (read-contract.Post κs) (read-job κs) (read-outcome κs)
 read-does κs a r s x = x
 
@@ -126,6 +149,9 @@ check-job κs a = checkJob (now (a .0))
 
 abbrev pub check-outcome : (κs : Lfts 1) → ResD check-fn.signature κs → AtExit (endedOf 1 check-kinds.ps check-kinds.r) κs → ℕ
 check-outcome κs r s = r
+
+pub check-takes : (κs : Lfts 1) → Takes (check-contract.Pre κs)
+check-takes κs a = tt
 
 pub check-does : (κs : Lfts 1) → Does (check-contract.Post κs) (check-job κs) (check-outcome κs)
 check-does κs a r s x = sym x

@@ -13,7 +13,7 @@ use Rattle.paper.specs.Places.{interleaved, columnOf, rowOf, zOf, rasterOf}
 use Rattle.paper.specs.Square.{placeOf, lineOf, spotOf, line, along, levelBack, onFirst, levelsBack, raised, grey, pictured, greysOf}
 use Rattle.paper.specs.Walk.{bitOf}
 use Rattle.paper.specs.Bits.{bits, byteOf, packed, laid, allZero}
-use Rattle.paper.specs.Block.{payloadStart, labelCharacter, labelCharacters, isLabel, sameBytes, plainSum, weighedSum, header, sealed, payloadOf, checksRight, fieldsRight, blockRefusal}
+use Rattle.paper.specs.Block.{payloadStart, payloadBytes, payloadBits, labelCharacter, labelCharacters, isLabel, sameBytes, plainSum, weighedSum, header, sealed, payloadOf, checksRight, fieldsRight, blockRefusal}
 use Rattle.paper.specs.Record.{blockOf, recordOf, inTurn, turnRefusal, runFrom, bitsKept, payloadKept}
 use Rattle.paper.specs.Jobs.{sizesRefusal, Forward, forwardJob, Decoding, decodingJob, Inverse, inverseRefusal, inverseJob, Read, readingRefusal, readingJob}
 use Rattle.paper.specs.Cases.{checked, last, zeros, cut, label417}
@@ -41,15 +41,15 @@ always-n contract = let z : _≡_ {A = ℕ} 2 3 = sym (ap (λ (a : Decoding). a 
 pub always-0 : (cut 7) .unfinished ≡ 0 → ⊥
 always-0 contract = let z : _≡_ {A = ℕ} 2 0 = sym (ap (λ (a : Decoding). a .unfinished) (checked .P6)) ∙ contract in omega arith
 
--- a reader that uses block 0 and only nods at the others: a record of 3,944 bits has a byte in its second block, so the count,
+-- a reader that uses block 0 and only nods at the others: a record of a full block and 8 bits more has a byte in its second block, so the count,
 -- the bits and the payload of block 0 alone are each refuted
 abbrev two : List ℕ
-two = recordOf payloadStart [] 5 2 3 label417 (replicate 3944 true)
+two = recordOf payloadStart [] 5 2 3 label417 (replicate (payloadBits payloadStart + 8) true)
 
-pub only-block-0 : (a : Read) → readingJob two label417 (replicate 984 0) ≡ a → (a .blocks ≡ 1 → ⊥) × (a .bits ≡ 3936 → ⊥) × (getD (a .room) 492 0 ≡ 0 → ⊥)
+pub only-block-0 : (a : Read) → readingJob two label417 (replicate (2 * payloadBytes payloadStart) 0) ≡ a → (a .blocks ≡ 1 → ⊥) × (a .bits ≡ payloadBits payloadStart → ⊥) × (getD (a .room) (payloadBytes payloadStart) 0 ≡ 0 → ⊥)
 unfolding sizeIn levelsIn planesIn joined bitOf bits byteOf packed allZero labelCharacter labelCharacters isLabel sameBytes plainSum weighedSum header sealed payloadOf checksRight fieldsRight blockRefusal blockOf recordOf inTurn turnRefusal runFrom bitsKept payloadKept readingRefusal readingJob
 only-block-0 a contract = (
   λ h. let z : _≡_ {A = ℕ} 2 1 = ap (λ (a : Read). a .blocks) contract ∙ h in omega arith,
-  λ h. let z : _≡_ {A = ℕ} 3944 3936 = ap (λ (a : Read). a .bits) contract ∙ h in omega arith,
-  λ h. let z : _≡_ {A = ℕ} 255 0 = ap (λ (a : Read). getD (a .room) 492 0) contract ∙ h in omega arith,
+  λ h. let z : _≡_ {A = ℕ} (payloadBits payloadStart + 8) (payloadBits payloadStart) = ap (λ (a : Read). a .bits) contract ∙ h in omega arith,
+  λ h. let z : _≡_ {A = ℕ} 255 0 = ap (λ (a : Read). getD (a .room) (payloadBytes payloadStart) 0) contract ∙ h in omega arith,
 )

@@ -25,7 +25,7 @@ pub record Lowest (rows : List Row) (r : ℕ) : Type 0 where
   pub least : {w : Row} → List·Memᴰ w rows → w .holds ≡ false → (0 < r) × (r ≤ w .number)
   pub applies : 0 < r → (w : Row) × List·Memᴰ w rows × (w .holds ≡ false) × (w .number ≡ r)
 
--- the numbers whose refusal leaves something behind in what was lent; in this edition there is none
+-- the numbers whose refusal, whatever the job, leaves something behind in what was lent; in this edition there is none
 abbrev pub leavesSomething : ℕ → Bool
 leavesSomething r = false
 

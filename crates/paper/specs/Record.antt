@@ -47,7 +47,7 @@ said block = take 12 block
 unfoldable pub inTurn : List ℕ → List ℕ → ℕ → List ℕ → Bool
 inTurn first label i block = eqb (numberOf block) i && sameBytes (said block) first && sameBytes (labelOf block) label
 
--- why a block can't be kept in its turn: its own refusal, 8 or 9, before 10; 0 if it can
+-- why a block can't be kept in its turn: its own refusal (8 or 9; 6 if it is no block) before 10; 0 if it can
 unfoldable pub turnRefusal : ℕ → List ℕ → List ℕ → ℕ → List ℕ → ℕ
 turnRefusal start first label i block =
     unless (blockRefusal start block) (eqb (blockRefusal start block) 0)
