@@ -8,6 +8,7 @@ use native.Mathlib.Omega.{arith}
 use lib.Dec.{leb}
 use lib.IntN.{ℤ, natAbs}
 use lib.ListN.{length, drop, length-drop}
+use Rattle.list_laws.specs.Parts.{fourth}
 use Rattle.paper.specs.Walk.{negative, bitOf, reaches, Reading, isOne, testSet, refined, begun, walkNumber, depth}
 
 module _ (R : Reading) where
@@ -38,14 +39,10 @@ module _ (R : Reading) where
   abbrev pub opened : List ℤ → R .M (List ℤ) → Bool → R .M (List ℤ)
   opened xs m o = elim o [ true ↦ m | false ↦ R .done xs ]
 
--- what lies behind three parts of length q
-abbrev pub behind : ℕ → List ℤ → List ℤ
-behind q xs = drop q (drop q (drop q xs))
-
 -- the levels end where the numbers do
 abbrev pub Closes : ℕ → ℕ → List ℤ → Type 0
 Closes d zero xs = xs ≡ []
-Closes d (suc left) xs = Closes (suc d) left (behind (4 ^ suc d) xs)
+Closes d (suc left) xs = Closes (suc d) left (fourth (4 ^ suc d) xs)
 
 pub rest-closes : (d left : ℕ) (xs : List ℤ) → length xs + 4 ^ suc d ≡ 4 ^ (suc d + left) → Closes d left xs
 rest-closes d zero [] h = refl
@@ -54,7 +51,7 @@ rest-closes d (suc left) xs h =
     let q = 4 ^ suc d in
     let e : suc d + suc left ≡ suc (suc d) + left = omega arith in
     let b : 4 ^ suc (suc d) ≤ 4 ^ (suc (suc d) + left) = pow-le-pow-right {n = 4} (omega arith) (omega arith) in
-    rest-closes (suc d) left (behind q xs)
+    rest-closes (suc d) left (fourth q xs)
     (omega (arith, h, pow-suc 4 (suc d), b, ap (λ k. 4 ^ k) e, length-drop q (drop q (drop q xs)), length-drop q (drop q xs), length-drop q xs))
 
 -- a plane's levels end where its 4 ^ (suc d + L) numbers do

@@ -12,7 +12,8 @@ use lib.IntN.{ℤ, natAbs}
 use lib.ListN.{length, take, drop, length-append, take-append-drop}
 use Rattle.paper.specs.Sizes.{mostBits}
 use Rattle.paper.specs.Walk.{reaches, isOne, Coder, testSet, walkNumber, walkNumbers, walkSet, walkRest, walkPlane, walkPlanes, codeOf, planeCount, depth, _next_}
-use Rattle.walk_laws.specs.Asks.{behind, Closes, square-closes, test-known, test-asks, number-known, number-asks, afterBit, opened}
+use Rattle.list_laws.specs.Parts.{fourth}
+use Rattle.walk_laws.specs.Asks.{Closes, square-closes, test-known, test-asks, number-known, number-asks, afterBit, opened}
 use Rattle.walk_laws.specs.Planes.{planesCode, code-step}
 
 -- ---- one plane
@@ -82,20 +83,20 @@ unfoldable pub restTests : ℕ → ℕ → ℕ
 restTests d zero = 0
 restTests d (suc left) = suc (setTests d + (setTests d + (setTests d + restTests (suc d) left)))
 
-cost-three : (p d : ℕ) (xs : List ℤ) {k j : ℕ} {c : List ℤ → List ℤ × List Bool} {e : List ℤ × List Bool} → ((ys : List ℤ) → Cost p ys (c ys) k) → Cost p (behind (4 ^ suc d) xs) e j
+cost-three : (p d : ℕ) (xs : List ℤ) {k j : ℕ} {c : List ℤ → List ℤ × List Bool} {e : List ℤ × List Bool} → ((ys : List ℤ) → Cost p ys (c ys) k) → Cost p (fourth (4 ^ suc d) xs) e j
     → Cost p xs (_next_ Coder (c (take (4 ^ suc d) xs)) (_next_ Coder (c (take (4 ^ suc d) (drop (4 ^ suc d) xs))) (_next_ Coder (c (take (4 ^ suc d) (drop (4 ^ suc d) (drop (4 ^ suc d) xs)))) e))) (k + (k + (k + j)))
 cost-three p d xs C D = let q = 4 ^ suc d in cost-split q xs (C _) (cost-split q (drop q xs) (C _) (cost-split q (drop q (drop q xs)) (C _) D))
 
 cost-set : (p d : ℕ) (xs : List ℤ) → Cost p xs (walkSet Coder p d xs) (setTests d)
 unfolding walkSet setTests
 cost-set p zero xs = cost-tested p xs _ 0 (cost-numbers p xs)
-cost-set p (suc d) xs = cost-tested p xs _ _ (cost-three p d xs {c = walkSet Coder p d} (cost-set p d) (cost-set p d (behind (4 ^ suc d) xs)))
+cost-set p (suc d) xs = cost-tested p xs _ _ (cost-three p d xs {c = walkSet Coder p d} (cost-set p d) (cost-set p d (fourth (4 ^ suc d) xs)))
 
 -- the rest may end in numbers that no level covers, so it is held to its numbers only where the levels end with them
 cost-rest : (p d left : ℕ) (xs : List ℤ) → Closes d left xs → Cost p xs (walkRest Coder p d left xs) (restTests d left)
 unfolding walkRest restTests
 cost-rest p d zero xs h = subst (λ l. Cost p l (l, []) 0) (sym h) (record { most = omega arith })
-cost-rest p d (suc left) xs h = cost-tested p xs _ _ (cost-three p d xs {c = walkSet Coder p d} (cost-set p d) (cost-rest p (suc d) left (behind (4 ^ suc d) xs) h))
+cost-rest p d (suc left) xs h = cost-tested p xs _ _ (cost-three p d xs {c = walkSet Coder p d} (cost-set p d) (cost-rest p (suc d) left (fourth (4 ^ suc d) xs) h))
 
 cost-plane : (p d L : ℕ) (xs : List ℤ) → Closes d L (drop (4 ^ suc d) xs) → Cost p xs (walkPlane Coder d L p xs) (setTests d + restTests d L)
 unfolding walkPlane

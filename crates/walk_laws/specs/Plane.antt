@@ -12,7 +12,8 @@ use lib.ListN.{take, drop, take-append-drop}
 use Rattle.paper.specs.Walk.{negative, signed, bitOf, worth, reaches, Reading, Coder, Decoder, Tape, nextBit, isOne, testSet, refined, begun, walkNumber, walkNumbers, walkSet, walkRest, walkPlane, _next_}
 use Rattle.list_laws.specs.Mapped.{take-map, drop-map}
 use Rattle.walk_laws.specs.Cleared.{cleared, leb-cleared, cleared-refined, cleared-begun, cleared-still, reaches-cleared, closed-still}
-use Rattle.walk_laws.specs.Asks.{test-known, test-asks, number-known, number-asks, afterBit, opened, behind, Closes}
+use Rattle.list_laws.specs.Parts.{fourth}
+use Rattle.walk_laws.specs.Asks.{test-known, test-asks, number-known, number-asks, afterBit, opened, Closes}
 use Rattle.walk_laws.specs.Together.{tape, Decodes, Grows, stops-unsettled, Together, nothing-after, tail-of, together-next}
 
 -- ---- one piece
@@ -158,20 +159,20 @@ module _ (p d : ℕ) (v : (R : Reading) → List ℤ → R .M (List ℤ)) where
   abbrev three : (R : Reading) → List ℤ → R .M (List ℤ)
   three = split sets (split sets (split sets v q) q) q
 
-  well-three : ((ys : List ℤ) → Well p sets ys) → (xs : List ℤ) → Well p v (behind q xs) → Well p three xs
+  well-three : ((ys : List ℤ) → Well p sets ys) → (xs : List ℤ) → Well p v (fourth q xs) → Well p three xs
   well-three W xs G = well-split p q sets _ xs (W _) (well-split p q sets _ (drop q xs) (W _) (well-split p q sets v (drop q (drop q xs)) (W _) G))
 
 -- ---- the walk
 well-set : (p d : ℕ) (xs : List ℤ) → Well p (λ R. walkSet R p d) xs
 unfolding walkSet Well
 well-set p zero xs = together-tested p xs _ _ (together-numbers p xs)
-well-set p (suc d) xs = together-tested p xs _ _ (well-three p d (λ R. walkSet R p d) (well-set p d) xs (well-set p d (behind (4 ^ suc d) xs)))
+well-set p (suc d) xs = together-tested p xs _ _ (well-three p d (λ R. walkSet R p d) (well-set p d) xs (well-set p d (fourth (4 ^ suc d) xs)))
 
 well-rest : (p d left : ℕ) (xs : List ℤ) → Closes d left xs → Well p (λ R. walkRest R p d left) xs
 unfolding walkRest Well
 well-rest p d zero xs h = subst (λ l. Together p l (l, []) (λ t. (map (cleared (suc p)) l, t))) (sym h) (together-done p)
 well-rest p d (suc left) xs h =
-    together-tested p xs _ _ (well-three p d (λ R. walkRest R p (suc d) left) (well-set p d) xs (well-rest p (suc d) left (behind (4 ^ suc d) xs) h))
+    together-tested p xs _ _ (well-three p d (λ R. walkRest R p (suc d) left) (well-set p d) xs (well-rest p (suc d) left (fourth (4 ^ suc d) xs) h))
 
 pub together-plane : (p d L : ℕ) (xs : List ℤ) → Closes d L (drop (4 ^ suc d) xs)
     → Together p xs (walkPlane Coder d L p xs) (walkPlane Decoder d L p (map (cleared (suc p)) xs))

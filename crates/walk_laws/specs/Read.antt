@@ -14,7 +14,8 @@ use lib.ListN.{length, take, drop, replicate, length-take, length-append, length
 use lib.Seq.{take-all}
 use Rattle.paper.specs.Sizes.{mostSize, mostPlanes}
 use Rattle.paper.specs.Walk.{reaches, Decoder, Tape, nextBit, isOne, testSet, refined, begun, walkNumber, walkNumbers, walkSet, walkRest, walkPlane, walkPlanes, depth, decodeOf, Settled, _next_}
-use Rattle.walk_laws.specs.Asks.{behind, test-known, test-asks, number-known, number-asks, afterBit, opened}
+use Rattle.list_laws.specs.Parts.{fourth}
+use Rattle.walk_laws.specs.Asks.{test-known, test-asks, number-known, number-asks, afterBit, opened}
 use Rattle.walk_laws.specs.Together.{tape, Decodes}
 use Rattle.walk_laws.specs.Bound.{setTests, restTests, set-tests, rest-tests}
 
@@ -172,7 +173,7 @@ walks-split {K} {J} n xs F G =
     let e : length (take n xs) + length (drop n xs) ≡ length xs = sym (length-append (take n xs) (drop n xs)) ∙ ap length (take-append-drop n xs) in
     record { reads = reads-more (K + J + 2 * length xs) (omega arith) (reads-next (length xs) e (F .reads) (G .reads)) }
 
-walks-three : {K J : ℕ} (q : ℕ) (xs : List ℤ) (f : List ℤ → Decodes (List ℤ)) {g : Decodes (List ℤ)} → ((ys : List ℤ) → Walks K ys (f ys)) → Walks J (behind q xs) g
+walks-three : {K J : ℕ} (q : ℕ) (xs : List ℤ) (f : List ℤ → Decodes (List ℤ)) {g : Decodes (List ℤ)} → ((ys : List ℤ) → Walks K ys (f ys)) → Walks J (fourth q xs) g
     → Walks (K + (K + (K + J))) xs (_next_ Decoder (f (take q xs)) (_next_ Decoder (f (take q (drop q xs))) (_next_ Decoder (f (take q (drop q (drop q xs)))) g)))
 walks-three q xs f F G = walks-split q xs (F _) (walks-split q (drop q xs) (F _) (walks-split q (drop q (drop q xs)) (F _) G))
 

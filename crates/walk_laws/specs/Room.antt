@@ -15,7 +15,8 @@ use Rattle.paper.specs.Sizes.{numbersIn, numberLimit, mostPlanes}
 use Rattle.paper.specs.Lists.{at}
 use Rattle.paper.specs.Walk.{negative, worth, Decoder, Tape, nextBit, isOne, testSet, refined, begun, walkNumber, walkNumbers, walkSet, walkRest, walkPlane, walkPlanes, depth, decodeOf, _next_}
 use Rattle.walk_laws.specs.Cleared.{natAbs-signed}
-use Rattle.walk_laws.specs.Asks.{behind, number-known, number-asks, afterBit, opened}
+use Rattle.list_laws.specs.Parts.{fourth}
+use Rattle.walk_laws.specs.Asks.{number-known, number-asks, afterBit, opened}
 use Rattle.walk_laws.specs.Together.{tape, Decodes}
 
 -- every magnitude leaves room for 2 ^ k below 2 ^ mostPlanes
@@ -107,7 +108,7 @@ module _ (p : ℕ) (low : p < mostPlanes) where
       go false t = room-less p xs w
 
   three-leave : (q : ℕ) (xs : List ℤ) (f g : List ℤ → Decodes (List ℤ)) → ((ys : List ℤ) → Room (suc p) ys → Leaves p (f ys)) → ((ys : List ℤ) → Room (suc p) ys → Leaves p (g ys)) → Room (suc p) xs
-      → Leaves p (_next_ Decoder (f (take q xs)) (_next_ Decoder (f (take q (drop q xs))) (_next_ Decoder (f (take q (drop q (drop q xs)))) (g (behind q xs)))))
+      → Leaves p (_next_ Decoder (f (take q xs)) (_next_ Decoder (f (take q (drop q xs))) (_next_ Decoder (f (take q (drop q (drop q xs)))) (g (fourth q xs)))))
   three-leave q xs f g F G w =
       let k = suc p in
       let w1 = room-drop k q xs w in
