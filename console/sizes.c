@@ -2,7 +2,7 @@
  * The sizes that label.h gives, held to a plain count and to the library: sizes [LARGEST_K]. At every k and n the most
  * bits, bytes and blocks are counted here once more, from what a walk can ask at most, and label_write takes that much
  * and refuses more. Numbers that need n planes, by chance and as bad as can be, are coded within these sizes, and
- * label.h's rule for a coding that was cut tells the truth; in the smallest pictures at every number of bits.
+ * label.h's rule for a coding that was cut tells the truth; at every number of bits where there are few.
  */
 #include <stdio.h>
 #include <stdlib.h>
@@ -150,7 +150,7 @@ static void code(unsigned k, unsigned levels, unsigned n, int flat)
     free(lent);
     free(bytes);
 
-    if (k == 3 && (n < 3 || n % 9 == 0)) {
+    if (k == 3 && n < 5) {
         for (size_t limit = 0; limit <= all + 9; limit++)
             cut_at(k, levels, n, all, limit, most);
         for (size_t count = 0; count <= most; count++)
