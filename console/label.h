@@ -26,8 +26,9 @@
  *     from 1 to the smaller of 5 and k - 1; n, the bit planes, at most 18. A label is eight ASCII digits and
  *     never a number: leading zeros count.
  *
- *     Nothing is allocated and nothing is kept between calls. A slice is a pointer and a count of elements.
- *     Slices lent to one call do not overlap; a pointer is not NULL, even where the count is 0.
+ *     Nothing is allocated and nothing is kept between calls; a call takes at most LABEL_STACK_BYTES of
+ *     stack. A slice is a pointer and a count of elements. Slices lent to one call do not overlap; a pointer
+ *     is not NULL, even where the count is 0.
  *
  *     What a cut picture is worth, with p planes unfinished: no wavelet number's magnitude is above the true
  *     one, none is short by more than 2^p - 1, none that isn't zero has the wrong sign, and no grey is off by
@@ -123,10 +124,11 @@ extern "C" {
 #define LABEL_PAYLOAD_BITS 3936
 #define LABEL_NUMBER_LIMIT 262143
 #define LABEL_MOST_PLANES 18
-#define LABEL_STACK_BYTES 4096 /* the most stack that a call takes, with its arguments */
+#define LABEL_STACK_BYTES 4096 /* measured, rounded up; a call's arguments, memcpy and memset are in it */
 
 /* Sizes of what a caller lends, for k from 3 to 8 and n from 0 to 18: constants where k and n are, so that
-   arrays can have them. No coding of n planes has more than n(4S^2 - 1)/3 + S^2 bits. */
+   arrays can have them. No coding of n planes has more than n(4S^2 - 1)/3 + S^2 bits. label_write needs 512
+   bytes of room for each block, label_read 492 for each whole block that it is lent. */
 #define LABEL_PLACES(k) ((size_t)1 << (2 * (k)))
 #define LABEL_MOST_LEVELS(k) ((k) < 6 ? (k) - 1 : 5)
 #define LABEL_MOST_BITS(k, n) ((size_t)(n) * ((4 * LABEL_PLACES(k) - 1) / 3) + LABEL_PLACES(k))
