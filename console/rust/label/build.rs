@@ -18,8 +18,8 @@ fn found_in(folder: &Path) -> Option<&'static str> {
 }
 
 fn main() {
-    println!("cargo::rerun-if-changed=build.rs");
-    println!("cargo::rerun-if-env-changed=LABEL_LIB_DIR");
+    println!("cargo:rerun-if-changed=build.rs");
+    println!("cargo:rerun-if-env-changed=LABEL_LIB_DIR");
     let folders: Vec<PathBuf> = match env::var_os("LABEL_LIB_DIR") {
         // a folder that was named is the only one: an archive from elsewhere would not be the one that was meant
         Some(named) => vec![named.into()],
@@ -31,9 +31,9 @@ fn main() {
     };
     for folder in &folders {
         if let Some(name) = found_in(folder) {
-            println!("cargo::rerun-if-changed={}/lib{name}.a", folder.display());
-            println!("cargo::rustc-link-search=native={}", folder.display());
-            println!("cargo::rustc-link-lib=static={name}");
+            println!("cargo:rerun-if-changed={}/lib{name}.a", folder.display());
+            println!("cargo:rustc-link-search=native={}", folder.display());
+            println!("cargo:rustc-link-lib=static={name}");
             return;
         }
     }

@@ -1,7 +1,7 @@
 //! Grey label pictures, their bits and their blocks.
 //!
 //! A picture has S x S greys of one byte, S = 2^k, k from 3 to 8, row by row. [`forward`] makes wavelet numbers of
-//! them, [`code`] makes bits of the numbers, the most significant plane first, and [`write`] makes 512-byte blocks of
+//! them, [`code`] makes bits of the numbers, the most significant plane first, and [`write()`] makes 512-byte blocks of
 //! the bits: the record. A record may be cut anywhere. [`read`] takes its longest run of good blocks, [`decode`] what
 //! their bits settle, and [`inverse`] makes greys of that. [`check`] judges one block by itself.
 //!

@@ -44,7 +44,7 @@ pub struct Settled {
     pub read: usize,
 }
 
-/// What [`write`] answers.
+/// What [`write()`] answers.
 #[repr(C)]
 #[derive(Clone, Copy, Debug, Default, PartialEq, Eq, Hash)]
 #[must_use]
