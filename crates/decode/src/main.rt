@@ -23,7 +23,7 @@ fn write_help(fd: i32) {
     );
     pipes::write_all(
         fd,
-        b"What can't be promised: blocks of two shots under one label, with the same side,\nlevels and planes, splice unnoticed in edition 1, and no line here tells. Edition\n2's mount number (to come) closes this.\n",
+        b"What can't be promised: blocks of two shots under one label, with the same side,\nlevels and planes, splice unnoticed in edition 1, and no line here tells.\nEdition 2's mount number (to come) closes this.\n",
     );
 }
 
