@@ -94,7 +94,7 @@ def opened(label, record):
     numbers, p = wavelet_numbers(bits, k, L, n)
     limit, plural = min(255, (7 * L + 1) * (2 ** p - 1)), 's' if kept > 1 else ''
     verdict, worth = 'CUT', 'no grey is off by more than %d of 255' % limit
-    if limit == 255: worth = 'any grey may be bad: too little is left to promise more'
+    if limit == 255: worth = 'any grey may be wrong: too little is left to promise more'
     if p == 0: verdict, worth = 'WHOLE', 'every grey is right: the very picture'
     more = 'more' if p > 0 and len(bits) == 3936 * kept else 'no more'
     said = ['%s %s, side %d: %d block%s, %s expected' % (verdict, name, 2 ** k, kept, plural, more),
