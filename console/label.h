@@ -16,38 +16,93 @@
  *     One block:
  *         label_block_check
  *
- *     Link with libconsole.a (x86-64, made by `rt staticlib console`).
+ *     Link with libconsole.a (x86-64, made by `rt staticlib console`). Of the C library it asks for memcpy
+ *     and memset, no more.
  *
  * DESCRIPTION
- *     A picture has S x S greys of one byte, S = 2^k, k from 3 to 8, row by row. Its S x S wavelet numbers, of 32 bits
- *     with sign, are within +-262143 and stand in Z order. L, the levels, is from 1 to the smaller of 5 and k - 1; n,
- *     the bit planes, at most 18. A label is eight ASCII digits and never a number: leading zeros count.
+ *     A picture has S x S greys of one byte, S = 2^k, k from 3 to 8, row by row. Its S x S wavelet numbers,
+ *     of 32 bits with sign, are within +-262143 and stand in Z order: the place of row r, column c
+ *     interleaves their bits, the lowest bit of c lowest (row 6, column 7 is place 61). L, the levels, is
+ *     from 1 to the smaller of 5 and k - 1; n, the bit planes, at most 18. A label is eight ASCII digits and
+ *     never a number: leading zeros count.
  *
- *     Nothing is allocated and nothing is kept between calls. A slice is a pointer and a count of elements. Slices lent
- *     to one call do not overlap; a pointer is not NULL, even where the count is 0.
+ *     Nothing is allocated and nothing is kept between calls; a call takes at most LABEL_STACK_BYTES of
+ *     stack. A slice is a pointer and a count of elements. Slices lent to one call do not overlap; a pointer
+ *     is not NULL, even where the count is 0.
  *
- *     What a cut picture is worth, with p planes unfinished: no wavelet number's magnitude is above the true one, none
- *     is short by more than 2^p - 1, none that isn't zero has the wrong sign, and no grey is off by more than
- *     (7L + 1)(2^p - 1). With p = 0 it is the very picture.
+ *     What a cut picture is worth, with p planes unfinished: no wavelet number's magnitude is above the true
+ *     one, none is short by more than 2^p - 1, none that isn't zero has the wrong sign, and no grey is off by
+ *     more than (7L + 1)(2^p - 1). With p = 0 it is the very picture. All this is of the blocks of one
+ *     coding: blocks of two shots under one label, with the same k, L and n, splice unnoticed in edition 1.
+ *     The mount number of edition 2, to come, closes that.
+ *
+ *     Was a coding cut by what label_code was lent? Not if `bits` is below both `limit` and 8 x bytes_count.
+ *     If it equals one of them, label_decode tells: of these bits, `unfinished` is 0 exactly if they are all.
+ *     With LABEL_MOST_BYTES(k, n) bytes and a limit of SIZE_MAX nothing is ever cut.
  *
  * REFUSALS
- *     `refusal` is 0, or the lowest of these that applies. A refused call answers 0 for all else and changes no byte
- *     and no number that it was lent.
- *      1   k not in 3..8
- *      2   L not in its range
- *      3   picture, number or working slice not S x S long
- *      4   a number beyond +-262143
- *      5   n above 18
- *      6   b beyond the bytes lent; label_write: b beyond what n planes can have, or room under 512 bytes a block;
- *          label_read: under 512 bytes, or room under 492 for each whole block; label_block_check: not 512 bytes
- *      7   the label given is not eight digits
- *      8   a block's check A or B is wrong
- *      9   a block's edition, k, L, n, label, payload count or an unused bit is wrong
- *     10   a block's number is out of turn, its bytes 0 to 11 are unlike block 0's, or its label unlike the one expected
+ *     `refusal` is 0, LABEL_OK, or the lowest of these that applies. A refused call answers 0 for all else
+ *     and changes no byte and no number that it was lent.
+ *      1  LABEL_BAD_SIDE    k not in 3..8
+ *      2  LABEL_BAD_LEVELS  L not in its range
+ *      3  LABEL_BAD_LENGTH  picture, number or working slice not S x S long
+ *      4  LABEL_BAD_NUMBER  a number beyond +-262143
+ *      5  LABEL_BAD_PLANES  n above 18
+ *      6  LABEL_BAD_ROOM    b beyond the bytes lent; label_write: b beyond what n planes can have, or room
+ *                           under 512 bytes a block; label_read: under 512 bytes, or room under 492 for each
+ *                           whole block lent; label_block_check: not 512 bytes
+ *      7  LABEL_BAD_LABEL   the label given is not eight digits
+ *      8  LABEL_BAD_CHECK   a block's check A or B is wrong: it is damaged
+ *      9  LABEL_BAD_FIELD   a block's edition, k, L, n, label, payload count or an unused bit is wrong
+ *     10  LABEL_BAD_TURN    a block's number is out of turn, its bytes 0 to 11 are unlike block 0's, or its
+ *                           label is unlike the one expected
  *
- * NOTES
- *     All this is proved of the code in the archive for every input. That the pointers and counts are as said above is
- *     the caller's to keep.
+ * EXAMPLE
+ *     #include <stdio.h>
+ *     #include "label.h"
+ *
+ *     enum { K = 6, L = 2, PLACES = LABEL_PLACES(K), BLOCKS = LABEL_MOST_BLOCKS(K, LABEL_MOST_PLANES) };
+ *     static const uint8_t name[] = {'0', '0', '0', '0', '0', '4', '1', '7'};
+ *     static uint8_t picture[PLACES], bits[BLOCKS * LABEL_PAYLOAD_BYTES], record[BLOCKS * LABEL_BLOCK_BYTES];
+ *     static int32_t numbers[PLACES], room[PLACES];
+ *
+ *     int main(void)
+ *     {
+ *         for (size_t i = 0; i < PLACES; i++)
+ *             picture[i] = (uint8_t)(i * i / 64);
+ *
+ *         // a picture into a record
+ *         struct label_planes planes = label_forward(K, L, picture, PLACES, numbers, PLACES);
+ *         struct label_written coded = label_code(K, L, numbers, PLACES, SIZE_MAX, bits, sizeof bits);
+ *         struct label_blocks made = label_write(K, L, coded.n, name, sizeof name,
+ *                                                bits, sizeof bits, coded.bits, record, sizeof record);
+ *         if (planes.refusal || coded.refusal || made.refusal)
+ *             return 1;
+ *
+ *         // and its first two blocks into a picture
+ *         struct label_kept kept = label_read(record, 2 * LABEL_BLOCK_BYTES, name, sizeof name,
+ *                                             bits, sizeof bits);
+ *         struct label_settled cut = label_decode(kept.k, kept.levels, kept.n, numbers, PLACES,
+ *                                                 bits, sizeof bits, kept.bits);
+ *         uint32_t refusal = label_inverse(kept.k, kept.levels, numbers, PLACES,
+ *                                          picture, PLACES, room, PLACES);
+ *         if (kept.refusal || cut.refusal || refusal)
+ *             return 1;
+ *         printf("%zu of %zu blocks kept, %u of %u planes unfinished\n",
+ *                kept.blocks, made.blocks, (unsigned)cut.unfinished, (unsigned)kept.n);
+ *         return 0;
+ *     }
+ *
+ * WHAT IS PROVED
+ *     That a call takes whatever it is given, ends, and leaves and answers what its job is defined to, and
+ *     that the jobs keep the promises above: these are theorems, for every input, about the contracts and the
+ *     source of the exported functions as the checker reads them; docs/PROMISES.md leads to each. What must
+ *     be believed: the definitions, the checker, the compiler's back end from there to x86-64, and the
+ *     boundary: that this page declares what the archive exports, and that pointers and counts are as said
+ *     above. LABEL_STACK_BYTES is measured on x86-64, by console/stack.c, and not proved.
+ *
+ * Copyright (c) 2026 The Cantrufeddu authors
+ * SPDX-License-Identifier: MIT
  */
 #ifndef LABEL_H
 #define LABEL_H
@@ -59,8 +114,40 @@
 extern "C" {
 #endif
 
+#define LABEL_VERSION_MAJOR 0
+#define LABEL_VERSION_MINOR 2
+#define LABEL_VERSION_PATCH 0
+#define LABEL_VERSION "0.2.0"
+
 #define LABEL_BLOCK_BYTES 512
 #define LABEL_PAYLOAD_BYTES 492
+#define LABEL_PAYLOAD_BITS 3936
+#define LABEL_NUMBER_LIMIT 262143
+#define LABEL_MOST_PLANES 18
+#define LABEL_STACK_BYTES 4096 /* measured, rounded up; a call's arguments, memcpy and memset are in it */
+
+/* Sizes of what a caller lends, for k from 3 to 8 and n from 0 to 18: constants where k and n are, so that
+   arrays can have them. No coding of n planes has more than n(4S^2 - 1)/3 + S^2 bits. label_write needs 512
+   bytes of room for each block, label_read 492 for each whole block that it is lent. */
+#define LABEL_PLACES(k) ((size_t)1 << (2 * (k)))
+#define LABEL_MOST_LEVELS(k) ((k) < 6 ? (k) - 1 : 5)
+#define LABEL_MOST_BITS(k, n) ((size_t)(n) * ((4 * LABEL_PLACES(k) - 1) / 3) + LABEL_PLACES(k))
+#define LABEL_MOST_BYTES(k, n) ((LABEL_MOST_BITS(k, n) + 7) / 8)
+#define LABEL_MOST_BLOCKS(k, n) ((LABEL_MOST_BITS(k, n) + LABEL_PAYLOAD_BITS - 1) / LABEL_PAYLOAD_BITS)
+
+enum label_refusal {
+    LABEL_OK = 0,
+    LABEL_BAD_SIDE = 1,
+    LABEL_BAD_LEVELS = 2,
+    LABEL_BAD_LENGTH = 3,
+    LABEL_BAD_NUMBER = 4,
+    LABEL_BAD_PLANES = 5,
+    LABEL_BAD_ROOM = 6,
+    LABEL_BAD_LABEL = 7,
+    LABEL_BAD_CHECK = 8,
+    LABEL_BAD_FIELD = 9,
+    LABEL_BAD_TURN = 10
+};
 
 /* Fills `numbers` and gives n, the planes that they need. Refusals 1, 2, 3. */
 struct label_planes { uint32_t refusal; uint32_t n; };
@@ -68,8 +155,8 @@ struct label_planes label_forward(uint32_t k, uint32_t levels,
                                   const uint8_t *picture, size_t picture_count,
                                   int32_t *numbers, size_t numbers_count);
 
-/* Writes the first min(limit, 8 x bytes_count, all) bits; gives that count and n. Spare bits of the last byte written
-   are 0, later bytes untouched. Refusals 1, 2, 3, 4. */
+/* Writes the first min(limit, 8 x bytes_count, all) bits; gives that count and n. Spare bits of the last byte
+   written are 0, later bytes untouched. Refusals 1, 2, 3, 4. */
 struct label_written { uint32_t refusal; size_t bits; uint32_t n; };
 struct label_written label_code(uint32_t k, uint32_t levels,
                                 const int32_t *numbers, size_t numbers_count, size_t limit,
@@ -82,23 +169,27 @@ struct label_settled label_decode(uint32_t k, uint32_t levels, uint32_t n,
                                   int32_t *numbers, size_t numbers_count,
                                   const uint8_t *bytes, size_t bytes_count, size_t b);
 
-/* Fills the picture; `room` ends with the greys before they are set into 0 to 255, in Z order. Gives the refusal:
-   0, 1, 2, 3, 4. */
+/* Fills the picture; `room` ends with the greys before they are set into 0 to 255, in Z order.
+   Gives the refusal: 0, 1, 2, 3, 4. */
 uint32_t label_inverse(uint32_t k, uint32_t levels,
                        const int32_t *numbers, size_t numbers_count,
                        uint8_t *picture, size_t picture_count,
                        int32_t *room, size_t room_count);
 
-/* Writes the record of the first b bits at the front of `room`; gives its count of blocks. Refusals 1, 2, 5, 6, 7. */
+/* Writes the record of the first b bits at the front of `room`; gives its count of blocks.
+   Refusals 1, 2, 5, 6, 7. */
 struct label_blocks { uint32_t refusal; size_t blocks; };
 struct label_blocks label_write(uint32_t k, uint32_t levels, uint32_t n,
                                 const uint8_t *label, size_t label_count,
                                 const uint8_t *bytes, size_t bytes_count, size_t b,
                                 uint8_t *room, size_t room_count);
 
-/* Keeps the longest run of good blocks from the front: k, L, n, the blocks kept, their bits, and the number (8, 9, 10)
-   that ended the run, 0 if none. Their payload stands at the front of `room`. Refusals 6, 7, 8, 9, 10. */
-struct label_kept { uint32_t refusal; uint32_t k; uint32_t levels; uint32_t n; size_t blocks; size_t bits; uint32_t ended; };
+/* Keeps the longest run of good blocks from the front: k, L, n, the blocks kept, their bits, and the number
+   (8, 9, 10) that ended the run, 0 if none. Their payload stands at the front of `room`.
+   Refusals 6, 7, 8, 9, 10. */
+struct label_kept {
+    uint32_t refusal; uint32_t k; uint32_t levels; uint32_t n; size_t blocks; size_t bits; uint32_t ended;
+};
 struct label_kept label_read(const uint8_t *blocks, size_t blocks_count,
                              const uint8_t *label, size_t label_count,
                              uint8_t *room, size_t room_count);

@@ -1,13 +1,14 @@
-/* A picture's whole journey through the archive, from C: into a record, and out of it whole and cut, at every size. */
+/* A picture's whole journey through the archive, from C: into a record, and out of it whole and cut, at every size up to
+   the largest k given: tour [LARGEST_K]. */
 #include <stdio.h>
 #include <stdlib.h>
-#include <string.h>
 
 #include "label.h"
 
-enum { PLACES = 65536, BYTES = 204800, BLOCKS = 417 };
+enum { MOST_K = 8, PLACES = LABEL_PLACES(MOST_K), BLOCKS = LABEL_MOST_BLOCKS(MOST_K, LABEL_MOST_PLANES) };
 
-static uint8_t picture[PLACES], shown[PLACES], bytes[BYTES], record[BLOCKS * LABEL_BLOCK_BYTES], payload[BLOCKS * LABEL_PAYLOAD_BYTES];
+static uint8_t picture[PLACES], shown[PLACES], bytes[LABEL_MOST_BYTES(MOST_K, LABEL_MOST_PLANES)];
+static uint8_t record[BLOCKS * LABEL_BLOCK_BYTES], payload[BLOCKS * LABEL_PAYLOAD_BYTES];
 static int32_t numbers[PLACES], room[PLACES];
 static const uint8_t label[8] = {'0', '0', '0', '0', '0', '4', '1', '7'};
 
@@ -28,7 +29,8 @@ static void out(uint32_t k, size_t places, size_t blocks)
 
     kept = label_read(record, blocks * LABEL_BLOCK_BYTES, label, sizeof label, payload, sizeof payload);
     settled = label_decode(kept.k, kept.levels, kept.n, numbers, places, payload, sizeof payload, kept.bits);
-    if (kept.refusal || settled.refusal || label_inverse(kept.k, kept.levels, numbers, places, shown, places, room, places) || kept.k != k) {
+    if (kept.refusal || settled.refusal || kept.k != k
+        || label_inverse(kept.k, kept.levels, numbers, places, shown, places, room, places)) {
         printf("refused\n");
         exit(1);
     }
@@ -42,24 +44,28 @@ static void out(uint32_t k, size_t places, size_t blocks)
            largest > promised ? "WORSE THAN PROMISED" : settled.unfinished == 0 ? "the very picture" : "as good as promised");
 }
 
-int main(void)
+int main(int argc, char **argv)
 {
-    for (uint32_t k = 3; k <= 8; k++) {
-        size_t side = (size_t)1 << k, places = side * side;
-        uint32_t levels = k - 1 < 5 ? k - 1 : 5;
+    uint32_t most = argc > 1 ? (uint32_t)atoi(argv[1]) : MOST_K;
+
+    for (uint32_t k = 3; k <= most; k++) {
+        size_t places = LABEL_PLACES(k);
+        uint32_t levels = LABEL_MOST_LEVELS(k);
         struct label_planes planes;
         struct label_written written;
         struct label_blocks blocks;
 
-        draw(side);
+        draw((size_t)1 << k);
         planes = label_forward(k, levels, picture, places, numbers, places);
-        written = label_code(k, levels, numbers, places, (size_t)-1, bytes, sizeof bytes);
-        blocks = label_write(k, levels, written.n, label, sizeof label, bytes, sizeof bytes, written.bits, record, sizeof record);
+        written = label_code(k, levels, numbers, places, SIZE_MAX, bytes, sizeof bytes);
+        blocks = label_write(k, levels, written.n, label, sizeof label, bytes, sizeof bytes, written.bits,
+                             record, sizeof record);
         if (planes.refusal || written.refusal || blocks.refusal || planes.n != written.n) {
             printf("refused\n");
             return 1;
         }
-        printf("side %zu, %u levels: %u planes, %zu bits, %zu blocks\n", side, (unsigned)levels, (unsigned)planes.n, written.bits, blocks.blocks);
+        printf("side %u, %u levels: %u planes, %zu bits, %zu %s\n", 1u << k, (unsigned)levels, (unsigned)planes.n,
+               written.bits, blocks.blocks, blocks.blocks == 1 ? "block" : "blocks");
         out(k, places, blocks.blocks);
         if (blocks.blocks > 1)
             out(k, places, blocks.blocks / 2);

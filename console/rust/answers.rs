@@ -1,7 +1,6 @@
 //! Answers the requests of a transcript by calls of the label library, so that
 //! its answers can be compared with the second program's.
 
-mod label;
 mod library;
 
 use second::transcript;

@@ -2,7 +2,6 @@
 //! every size and level, every cut of small codings, every plane count, every
 //! single-byte change of a block. Stops at the first difference.
 
-mod label;
 mod library;
 
 use second::random::Random;
@@ -129,7 +128,7 @@ fn every_plane_count(comparison: &mut Comparison, random: &mut Random, sizes: Si
 fn every_byte(comparison: &mut Comparison, random: &mut Random) {
     let (label, mut record) = (b"00000417".to_vec(), vec![0; 1024]);
     let bytes = random.bytes(600);
-    label::write(5, 2, 8, &label, &bytes, 4500, &mut record);
+    label::write(5, 2, 8, &label, &bytes, 4500, &mut record).expect("there is room for two blocks");
     for place in 0..512 {
         for change in 1..=255 {
             let mut block = record[512..].to_vec();

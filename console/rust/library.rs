@@ -1,6 +1,7 @@
-//! The label library's answer to a request of a transcript.
+//! The label library's answer to a request of a transcript: every field of the plain answer, also of a refused call. What
+//! the package makes of it, a value or a refusal by name, is held to it here.
 
-use crate::label;
+use label::{raw, Refusal};
 use second::transcript::{self, Answer, Field, Request};
 
 fn small(value: u32) -> Field {
@@ -9,6 +10,11 @@ fn small(value: u32) -> Field {
 
 fn large(value: usize) -> Field {
     Field::Large(value as u64)
+}
+
+/// Holds the named result to the number of the plain answer.
+fn named<T>(refusal: u32, result: Result<T, Refusal>) {
+    assert_eq!(result.err().map_or(0, Refusal::number), refusal, "a refusal by another name");
 }
 
 /// Makes the call and gives its answer. A job's own fields come in the order of
@@ -22,7 +28,8 @@ pub fn answer(request: &Request) -> Answer {
             numbers,
         } => {
             let mut numbers = transcript::lent_numbers(*numbers);
-            let given = label::forward(*k, *levels, picture, &mut numbers);
+            let given = raw::forward(*k, *levels, picture, &mut numbers);
+            named(given.refusal, given.result());
             vec![
                 ("refusal", small(given.refusal)),
                 ("n", small(given.n)),
@@ -37,7 +44,8 @@ pub fn answer(request: &Request) -> Answer {
             bytes,
         } => {
             let mut bytes = transcript::lent_bytes(*bytes);
-            let given = label::code(*k, *levels, numbers, *limit as usize, &mut bytes);
+            let given = raw::code(*k, *levels, numbers, *limit as usize, &mut bytes);
+            named(given.refusal, given.result());
             vec![
                 ("refusal", small(given.refusal)),
                 ("bits", large(given.bits)),
@@ -54,7 +62,8 @@ pub fn answer(request: &Request) -> Answer {
             count,
         } => {
             let mut numbers = transcript::lent_numbers(*numbers);
-            let given = label::decode(*k, *levels, *planes, &mut numbers, bytes, *count as usize);
+            let given = raw::decode(*k, *levels, *planes, &mut numbers, bytes, *count as usize);
+            named(given.refusal, given.result());
             vec![
                 ("refusal", small(given.refusal)),
                 ("unfinished", small(given.unfinished)),
@@ -71,7 +80,7 @@ pub fn answer(request: &Request) -> Answer {
         } => {
             let mut picture = transcript::lent_bytes(*picture);
             let mut room = transcript::lent_numbers(*room);
-            let refusal = label::inverse(*k, *levels, numbers, &mut picture, &mut room);
+            let refusal = raw::inverse(*k, *levels, numbers, &mut picture, &mut room);
             vec![
                 ("refusal", small(refusal)),
                 ("picture", Field::Bytes(picture)),
@@ -88,7 +97,8 @@ pub fn answer(request: &Request) -> Answer {
             room,
         } => {
             let mut room = transcript::lent_bytes(*room);
-            let given = label::write(*k, *levels, *planes, label, bytes, *count as usize, &mut room);
+            let given = raw::write(*k, *levels, *planes, label, bytes, *count as usize, &mut room);
+            named(given.refusal, given.result());
             vec![
                 ("refusal", small(given.refusal)),
                 ("blocks", small(given.blocks as u32)),
@@ -97,7 +107,8 @@ pub fn answer(request: &Request) -> Answer {
         }
         Request::RecordReading { blocks, label, room } => {
             let mut room = transcript::lent_bytes(*room);
-            let given = label::read(blocks, label, &mut room);
+            let given = raw::read(blocks, label, &mut room);
+            named(given.refusal, given.result());
             vec![
                 ("refusal", small(given.refusal)),
                 ("k", small(given.k)),
@@ -109,6 +120,6 @@ pub fn answer(request: &Request) -> Answer {
                 ("room", Field::Bytes(room)),
             ]
         }
-        Request::BlockCheck { block } => vec![("refusal", small(label::block_check(block)))],
+        Request::BlockCheck { block } => vec![("refusal", small(raw::check(block)))],
     }
 }

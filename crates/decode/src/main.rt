@@ -1,51 +1,68 @@
 // decode LABEL < record > picture.pgm
 //
-// Makes the picture of a record, whole or cut anywhere, side 8 to 64, if it has the label expected. One line on standard
-// error says what the picture is worth; where something is wrong, it says what, and nothing is written. docs/MEMORY.md has
-// the sum of the buffers.
+// Makes the picture of a record, whole or cut anywhere, side 8 to 64, if it has the label expected. Standard error says what
+// it is worth, the verdict first; where something is wrong, it says what, and nothing is written. docs/MEMORY.md has the sum
+// of the buffers.
+use desk::MOST_GREYS;
+use desk::PAYLOAD_ROOM;
+use desk::RECORD_BYTES;
 use libc::STDERR_FILENO;
 use libc::STDIN_FILENO;
 use libc::STDOUT_FILENO;
 use record::Kept;
 
-// Each function puts the line that is said at its end into `line`, and answers the line's length.
-
-// Another label is named, since the reader may have to look for that cartridge.
-fn label_line(blocks: &[u8], line: &mut [u8]) -> usize {
-    if blocks.len() < 12 {
-        return 0;
-    }
-    remarks::refused_label(&blocks[4..12], line)
+// The program's own text, also for a person who used it wrongly.
+fn write_help(fd: i32) {
+    pipes::write_all(
+        fd,
+        b"usage: decode LABEL < record > picture.pgm\n\nMakes the picture (PGM) of a record, whole or cut anywhere, side 8 to 64.\n  LABEL  the eight digits that are expected; leading zeros count\n",
+    );
+    pipes::write_all(
+        fd,
+        b"Standard error says WHOLE, CUT or REFUSED, and what the picture is worth; a\nrefusal writes no picture. `label decode` does the same with an exit status.\n",
+    );
+    pipes::write_all(
+        fd,
+        b"What can't be promised: blocks of two shots under one label, with the same side,\nlevels and planes, splice unnoticed in edition 1, and no line here tells. Edition\n2's mount number (to come) closes this.\n",
+    );
 }
 
-fn side_line(k: u32, line: &mut [u8]) -> usize {
-    if k == 7 {
-        return words::put(
-            b"refused: the picture has side 128, and this program holds sides up to 64\n",
-            line,
-            0,
-        );
-    }
-    words::put(
-        b"refused: the picture has side 256, and this program holds sides up to 64\n",
-        line,
-        0,
-    )
+// Each function puts the lines that are said at its end into `line`, and answers their length.
+
+fn short_line(count: usize, line: &mut [u8]) -> usize {
+    let came = words::put_figure(b"REFUSED: no whole block came: ", count as u64, line, 0);
+    words::put(b" bytes, and a block has 512 (6)\n", line, came)
 }
 
-// The header and the picture; false if they could not be written.
-fn write_picture(k: u32, picture: &[u8]) -> bool {
-    let mut header = [0u8; 13];
-    let count = square_pgm::write_header(k, &mut header);
-    if !pipes::write_all(STDOUT_FILENO, &header[..count]) {
+fn side_line(label: &[u8], k: u32, line: &mut [u8]) -> usize {
+    let verdict = words::put(b"REFUSED ", line, 0);
+    let named = words::put(label, line, verdict);
+    let side = words::put_figure(b": side ", verdict::side(k), line, named);
+    words::put(b", and this program holds sides up to 64\n", line, side)
+}
+
+// The header with its promise, and the picture; false if they could not be written.
+fn write_picture(kept: Kept, unfinished: u32, label: &[u8], picture: &[u8]) -> bool {
+    let mut promise = [0u8; 128];
+    let told = verdict::promise(label, kept.levels, unfinished, kept.blocks, &mut promise);
+    let mut header = [0u8; 160];
+    let count = square_pgm::write_header(kept.k, &promise[..told], &mut header);
+    if !pipes::write_front(STDOUT_FILENO, &header, count) {
         return false;
     }
-    pipes::write_front(STDOUT_FILENO, picture, desk::area(k))
+    pipes::write_front(STDOUT_FILENO, picture, desk::area(kept.k))
 }
 
-fn rebuild(kept: Kept, payload: &[u8], picture: &mut [u8], line: &mut [u8]) -> usize {
-    let mut numbers = [0i32; 4096];
-    let mut working = [0i32; 4096];
+fn rebuild(
+    kept: Kept,
+    payload: &[u8],
+    label: &[u8],
+    ended: &[u8],
+    picture: &mut [u8],
+    line: &mut [u8],
+) -> usize {
+    let mut numbers = [0i32; MOST_GREYS];
+    let mut working = [0i32; MOST_GREYS];
     let settled = desk::rebuild(
         kept.k,
         kept.levels,
@@ -59,55 +76,76 @@ fn rebuild(kept: Kept, payload: &[u8], picture: &mut [u8], line: &mut [u8]) -> u
     if settled.refusal != 0 {
         return remarks::refused(settled.refusal, line);
     }
-    if !write_picture(kept.k, picture) {
-        return words::put(b"refused: standard output could not be written\n", line, 0);
+    if !write_picture(kept, settled.unfinished, label, picture) {
+        return words::put(b"REFUSED: standard output could not be written\n", line, 0);
     }
-    remarks::report(
+    verdict::report(
+        label,
+        kept.k,
+        kept.levels,
+        kept.n,
         kept.blocks,
         kept.bits,
-        kept.levels,
         settled.unfinished,
-        kept.ended,
+        ended,
         line,
     )
 }
 
-// The blocks are of no use once they are read, and their memory is the picture's: every grey of it is written, or none is
-// shown.
+// The blocks are of no use once they are read and what ended the run is said, and their memory is the picture's: every grey
+// of it is written, or none is shown.
 fn decode(room: &mut [u8], count: usize, label: &[u8], line: &mut [u8]) -> usize {
     if room.len() < count {
         return 0;
     }
-    let mut payload = [0u8; 13284];
+    let mut payload = [0u8; PAYLOAD_ROOM];
     let kept = label::read(&room[..count], label, &mut payload);
-    if kept.refusal == 10 {
-        return label_line(room, line);
+    if kept.refusal == 6 {
+        return short_line(count, line);
+    }
+    if 7 < kept.refusal {
+        return verdict::refused(kept.refusal, &room[..count], label, line);
     }
     if kept.refusal != 0 {
         return remarks::refused(kept.refusal, line);
     }
     if 6 < kept.k {
-        return side_line(kept.k, line);
+        return side_line(label, kept.k, line);
     }
-    rebuild(kept, &payload, room, line)
+    let mut ended = [0u8; 320];
+    let told = verdict::ended(kept.ended, &room[..count], label, kept.blocks, &mut ended);
+    rebuild(kept, &payload, label, &ended[..told], room, line)
+}
+
+fn read_and_decode(label: &[u8], line: &mut [u8]) -> usize {
+    let mut room = [0u8; RECORD_BYTES];
+    let filled = pipes::read_all(STDIN_FILENO, &mut room);
+    if filled.failed {
+        return words::put(b"REFUSED: standard input could not be read\n", line, 0);
+    }
+    decode(&mut room, filled.count, label, line)
 }
 
 fn run(line: &mut [u8]) -> usize {
-    if os::arg_count() != 2 {
-        return words::put(b"usage: decode LABEL < record > picture.pgm\n", line, 0);
-    }
     let mut label = [0u8; 16];
-    let label_count = os::arg(1, &mut label);
-    let mut room = [0u8; 13824];
-    let filled = pipes::read_all(STDIN_FILENO, &mut room);
-    if filled.failed {
-        return words::put(b"refused: standard input could not be read\n", line, 0);
+    let count = os::arg(1, &mut label);
+    if fields::same_bytes(&label[..count], b"--help") {
+        write_help(STDOUT_FILENO);
+        return 0;
     }
-    decode(&mut room, filled.count, &label[..label_count], line)
+    if fields::same_bytes(&label[..count], b"--version") {
+        pipes::write_all(STDOUT_FILENO, b"decode 0.2.0\n");
+        return 0;
+    }
+    if os::arg_count() != 2 {
+        write_help(STDERR_FILENO);
+        return 0;
+    }
+    read_and_decode(&label[..count], line)
 }
 
 fn main() {
-    let mut line = [0u8; 320];
+    let mut line = [0u8; 640];
     let count = run(&mut line);
     pipes::write_front(STDERR_FILENO, &line, count);
 }

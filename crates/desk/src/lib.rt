@@ -6,6 +6,15 @@ use decoding::Settled;
 use pgm::Header;
 use record::Blocks;
 
+// What the programs hold: the greys of the largest square, the most blocks of its record, and their bytes and payload.
+pub const MOST_GREYS: usize = 4096;
+
+pub const MOST_BLOCKS: usize = 27;
+
+pub const RECORD_BYTES: usize = block::BLOCK * MOST_BLOCKS;
+
+pub const PAYLOAD_ROOM: usize = block::PAYLOAD_BYTES * MOST_BLOCKS;
+
 // What is wrong with a PGM, and its picture's k.
 pub struct Found {
     pub fault: u32,

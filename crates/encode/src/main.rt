@@ -2,33 +2,63 @@
 //
 // Makes a record of a square picture, side 8 to 64, of all its bits or of the first BITS. Where something is wrong, one line
 // on standard error says what, and nothing is written. docs/MEMORY.md has the sum of the buffers.
+use block::BLOCK;
+use desk::MOST_BLOCKS;
+use desk::MOST_GREYS;
+use desk::PAYLOAD_ROOM;
+use desk::RECORD_BYTES;
 use libc::STDERR_FILENO;
 use libc::STDIN_FILENO;
 use libc::STDOUT_FILENO;
 use pgm::Header;
 use pgm::Number;
 
+// The program's own text, also for a person who used it wrongly.
+fn write_help(fd: i32) {
+    pipes::write_all(
+        fd,
+        b"usage: encode LABEL LEVELS [BITS] < picture.pgm > record\n\nMakes a record of a square grey picture (binary PGM, side 8, 16, 32 or 64).\n  LABEL   eight digits, as on the cartridge; leading zeros count\n",
+    );
+    pipes::write_all(
+        fd,
+        b"  LEVELS  how often the picture is halved: 1 to 5, and to 2, 3 or 4 at side 8, 16\n          or 32. More make the record smaller, and a cut picture's promise wider\n",
+    );
+    pipes::write_all(
+        fd,
+        b"  BITS    keep the first BITS bits only: a coarser picture in fewer blocks, 3936\n          bits to each. Without it, or beyond the picture's bits, all are kept\n",
+    );
+    pipes::write_all(
+        fd,
+        b"Silent if all is well; else one line on standard error begins with REFUSED, and\nnothing is written. `label encode` does the same with an exit status.\n",
+    );
+}
+
 // Each function that can fail puts the line that says so into `line`, and answers its length: 0 where all went well.
 
+// A number of the header; from 999,999 on all are taken for one.
+fn put_most(text: &[u8], number: u32, line: &mut [u8], at: usize) -> usize {
+    let told = words::put_figure(text, number as u64, line, at);
+    if number < 999999 {
+        return told;
+    }
+    words::put(b" or more", line, told)
+}
+
 fn greys_line(most: u32, line: &mut [u8]) -> usize {
-    let greys = words::put_figure(b"refused: the greys run to ", most as u64, line, 0);
+    let greys = put_most(b"REFUSED: the greys run to ", most, line, 0);
     words::put(b", and not to 255\n", line, greys)
 }
 
 fn sides_line(width: u32, height: u32, line: &mut [u8]) -> usize {
-    let across = words::put_figure(b"refused: the picture is ", width as u64, line, 0);
-    let down = words::put_figure(b" by ", height as u64, line, across);
-    words::put(
-        b", and not a square with a side of 8, 16, 32 or 64\n",
-        line,
-        down,
-    )
+    let across = put_most(b"REFUSED: the picture is ", width, line, 0);
+    let down = put_most(b" by ", height, line, across);
+    words::put(b", and not a square of side 8, 16, 32 or 64\n", line, down)
 }
 
 fn cut_line(bytes: usize, start: usize, line: &mut [u8]) -> usize {
-    let read = words::put_figure(b"refused: greys are missing: of ", bytes as u64, line, 0);
+    let read = words::put_figure(b"REFUSED: greys are missing: ", bytes as u64, line, 0);
     let header = words::put_figure(
-        b" bytes read (12288 at most) the header takes ",
+        b" bytes read (at most 12288), header ",
         start as u64,
         line,
         read,
@@ -39,7 +69,7 @@ fn cut_line(bytes: usize, start: usize, line: &mut [u8]) -> usize {
 fn fault_line(fault: u32, header: Header, bytes: usize, line: &mut [u8]) -> usize {
     match fault {
         1 => words::put(
-            b"refused: there is no header of a binary PGM (P5) in the first 12288 bytes\n",
+            b"REFUSED: there is no header of a binary PGM (P5) in the first 12288 bytes\n",
             line,
             0,
         ),
@@ -50,12 +80,12 @@ fn fault_line(fault: u32, header: Header, bytes: usize, line: &mut [u8]) -> usiz
 }
 
 fn write_record(room: &[u8], blocks: usize, line: &mut [u8]) -> usize {
-    if blocks <= 27 {
-        if pipes::write_front(STDOUT_FILENO, room, 512 * blocks) {
+    if blocks <= MOST_BLOCKS {
+        if pipes::write_front(STDOUT_FILENO, room, BLOCK * blocks) {
             return 0;
         }
     }
-    words::put(b"refused: standard output could not be written\n", line, 0)
+    words::put(b"REFUSED: standard output could not be written\n", line, 0)
 }
 
 fn encode(input: &[u8], label: &[u8], levels: u32, limit: usize, line: &mut [u8]) -> usize {
@@ -64,9 +94,9 @@ fn encode(input: &[u8], label: &[u8], levels: u32, limit: usize, line: &mut [u8]
     if found.fault != 0 {
         return fault_line(found.fault, header, input.len(), line);
     }
-    let mut numbers = [0i32; 4096];
-    let mut bytes = [0u8; 13284];
-    let mut room = [0u8; 13824];
+    let mut numbers = [0i32; MOST_GREYS];
+    let mut bytes = [0u8; PAYLOAD_ROOM];
+    let mut room = [0u8; RECORD_BYTES];
     let made = desk::encode(
         found.k,
         levels,
@@ -84,29 +114,41 @@ fn encode(input: &[u8], label: &[u8], levels: u32, limit: usize, line: &mut [u8]
     write_record(&room, made.blocks, line)
 }
 
-fn read_and_encode(levels: u32, limit: usize, line: &mut [u8]) -> usize {
+fn read_and_encode(room: &mut [u8], levels: u32, limit: usize, line: &mut [u8]) -> usize {
     let mut label = [0u8; 16];
     let label_count = os::arg(1, &mut label);
-    let mut input = [0u8; 12288];
-    let filled = pipes::read_all(STDIN_FILENO, &mut input);
+    let filled = pipes::read_all(STDIN_FILENO, room);
     let count = filled.count;
     if filled.failed {
-        return words::put(b"refused: standard input could not be read\n", line, 0);
+        return words::put(b"REFUSED: standard input could not be read\n", line, 0);
     }
-    encode(&input[..count], &label[..label_count], levels, limit, line)
+    if count == 0 {
+        return words::put(b"REFUSED: nothing came on standard input\n", line, 0);
+    }
+    encode(&room[..count], &label[..label_count], levels, limit, line)
 }
 
-// An argument in digits; its `next` is 0 where it is none.
-fn number_argument(i: usize) -> Number {
-    let mut text = [0u8; 16];
-    let count = os::arg(i, &mut text);
-    pgm::whole_number(&text[..count])
+// An argument in digits, however many they are, read through the room that the picture will have; its `next` is 0 where it is
+// none.
+fn number_argument(i: usize, room: &mut [u8]) -> Number {
+    let count = os::arg(i, room);
+    pgm::whole_number(&room[..count])
+}
+
+// Right behind the argument's reading, which says in errno whether all of it was read.
+fn number_line(name: &[u8], line: &mut [u8]) -> usize {
+    let verdict = words::put(b"REFUSED: ", line, 0);
+    let named = words::put(name, line, verdict);
+    if os::errno() == libc::ENAMETOOLONG {
+        return words::put(b" has more than 12288 characters\n", line, named);
+    }
+    words::put(b" is not a whole number\n", line, named)
 }
 
 // The bit limit, which is beyond all bits where it is not given.
-fn limit_argument(arguments: usize) -> Number {
+fn limit_argument(arguments: usize, room: &mut [u8]) -> Number {
     if arguments == 4 {
-        return number_argument(3);
+        return number_argument(3, room);
     }
     Number {
         value: 999999,
@@ -114,24 +156,36 @@ fn limit_argument(arguments: usize) -> Number {
     }
 }
 
+fn read_arguments(arguments: usize, line: &mut [u8]) -> usize {
+    let mut room = [0u8; 12288];
+    let levels = number_argument(2, &mut room);
+    if levels.next == 0 {
+        return number_line(b"LEVELS", line);
+    }
+    let limit = limit_argument(arguments, &mut room);
+    if limit.next == 0 {
+        return number_line(b"BITS", line);
+    }
+    read_and_encode(&mut room, levels.value, limit.value as usize, line)
+}
+
 fn run(line: &mut [u8]) -> usize {
+    let mut word = [0u8; 16];
+    let count = os::arg(1, &mut word);
+    if fields::same_bytes(&word[..count], b"--help") {
+        write_help(STDOUT_FILENO);
+        return 0;
+    }
+    if fields::same_bytes(&word[..count], b"--version") {
+        pipes::write_all(STDOUT_FILENO, b"encode 0.2.0\n");
+        return 0;
+    }
     let arguments = os::arg_count();
     if arguments < 3 || 4 < arguments {
-        return words::put(
-            b"usage: encode LABEL LEVELS [BITS] < picture.pgm > record\n",
-            line,
-            0,
-        );
+        write_help(STDERR_FILENO);
+        return 0;
     }
-    let levels = number_argument(2);
-    if levels.next == 0 {
-        return words::put(b"refused: LEVELS is not a whole number\n", line, 0);
-    }
-    let limit = limit_argument(arguments);
-    if limit.next == 0 {
-        return words::put(b"refused: BITS is not a whole number\n", line, 0);
-    }
-    read_and_encode(levels.value, limit.value as usize, line)
+    read_arguments(arguments, line)
 }
 
 fn main() {

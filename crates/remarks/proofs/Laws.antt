@@ -4,17 +4,14 @@ use mathlib.Core.List.{[]}
 use Prim.Native.Nat.{ℕ, zero, suc}
 use Rattle.remarks.specs.Said.{meanings, meaning}
 
-pub unmeant : (n : ℕ) → (n ≡ 1 → ⊥) → (n ≡ 2 → ⊥) → (n ≡ 3 → ⊥) → (n ≡ 4 → ⊥) → (n ≡ 5 → ⊥) → (n ≡ 6 → ⊥) → (n ≡ 7 → ⊥) → (n ≡ 8 → ⊥) → (n ≡ 9 → ⊥) → (n ≡ 10 → ⊥) → meaning n ≡ []
+pub unmeant : (n : ℕ) → (n ≡ 1 → ⊥) → (n ≡ 2 → ⊥) → (n ≡ 3 → ⊥) → (n ≡ 4 → ⊥) → (n ≡ 5 → ⊥) → (n ≡ 6 → ⊥) → (n ≡ 7 → ⊥) → meaning n ≡ []
 unfolding meanings
-unmeant zero a b c d e f g h i j = refl
-unmeant (suc zero) a b c d e f g h i j = absurd (a refl)
-unmeant (suc (suc zero)) a b c d e f g h i j = absurd (b refl)
-unmeant (suc (suc (suc zero))) a b c d e f g h i j = absurd (c refl)
-unmeant (suc (suc (suc (suc zero)))) a b c d e f g h i j = absurd (d refl)
-unmeant (suc (suc (suc (suc (suc zero))))) a b c d e f g h i j = absurd (e refl)
-unmeant (suc (suc (suc (suc (suc (suc zero)))))) a b c d e f g h i j = absurd (f refl)
-unmeant (suc (suc (suc (suc (suc (suc (suc zero))))))) a b c d e f g h i j = absurd (g refl)
-unmeant (suc (suc (suc (suc (suc (suc (suc (suc zero)))))))) a b c d e f g h i j = absurd (h refl)
-unmeant (suc (suc (suc (suc (suc (suc (suc (suc (suc zero))))))))) a b c d e f g h i j = absurd (i refl)
-unmeant (suc (suc (suc (suc (suc (suc (suc (suc (suc (suc zero)))))))))) a b c d e f g h i j = absurd (j refl)
-unmeant (suc (suc (suc (suc (suc (suc (suc (suc (suc (suc (suc n))))))))))) a b c d e f g h i j = refl
+unmeant zero a b c d e f g = refl
+unmeant (suc zero) a b c d e f g = absurd (a refl)
+unmeant (suc (suc zero)) a b c d e f g = absurd (b refl)
+unmeant (suc (suc (suc zero))) a b c d e f g = absurd (c refl)
+unmeant (suc (suc (suc (suc zero)))) a b c d e f g = absurd (d refl)
+unmeant (suc (suc (suc (suc (suc zero))))) a b c d e f g = absurd (e refl)
+unmeant (suc (suc (suc (suc (suc (suc zero)))))) a b c d e f g = absurd (f refl)
+unmeant (suc (suc (suc (suc (suc (suc (suc zero))))))) a b c d e f g = absurd (g refl)
+unmeant (suc (suc (suc (suc (suc (suc (suc (suc n)))))))) a b c d e f g = refl

@@ -1,47 +1,31 @@
--- The header as it is written, and the k of a side that is among those held or not.
-use mathlib.Core.Path.{_≡_, refl, sym, ap, _∙_}
+-- The k of a side that is among those held or not.
+use mathlib.Core.Path.{_≡_, refl, _∙_}
 use mathlib.Core.Bool.{Bool, true, false, _&&_}
-use mathlib.Core.List.{List, [], _∷_, _++_}
 use Prim.Native.Nat.{ℕ, suc, _^_, _<_, _≤_}
 use native.Mathlib.Omega.{arith}
 use lib.Dec.{leb}
-use lib.ListN.{length, take, drop, length-append, length-take}
-use lib.Seq.{take-length, length-take-le}
 use borrow.Author.Tests.{le-leb, lt-leb, leb-true, eq-eqb, ne-eqb}
-use Rattle.io.specs.Counts.{Counts}
-use Rattle.paper.specs.Lists.{pick}
 use Rattle.square_pgm.specs.Sides.{heldSize, sizeAmong, sideOf}
-use Rattle.square_pgm.specs.Text.{headerText, headerCount, headerIn}
 
--- what the writer answers and leaves in the room
-abbrev pub Written : ℕ → List ℕ → ℕ → List ℕ → Type 0
-Written k room r exit = (r ≡ headerCount k room) × ((exit ≡ headerIn k room) × Counts r exit)
+-- ---- the squares that are held
+module _ (k : ℕ) where
+  pub held-low : k < 3 → false ≡ heldSize k
+  unfolding heldSize
+  held-low h = rw (lt-leb 3 k h)
 
-counts : (text rest exit : List ℕ) (r : ℕ) → r ≡ length text → exit ≡ text ++ rest → Counts r exit
-counts text rest exit r e x =
-    let h : r ≤ length exit = omega (arith, ap length x ∙ length-append text rest, e) in
-    (h, sym (length-take-le r exit h))
+  pub held-high : 3 ≤ k → leb k 6 ≡ heldSize k
+  unfolding heldSize
+  held-high h = rw (le-leb 3 k h)
 
-pub written : (k n : ℕ) (text room exit : List ℕ) (r : ℕ) → 13 ≤ length room → k ≡ n → heldSize n ≡ true → headerText n ≡ text
-    → r ≡ length text → exit ≡ take (length text) text ++ drop (length text) room → Written k room r exit
-unfolding headerCount headerIn
-written k n text room exit r long e held t c x =
-    let y : exit ≡ text ++ drop (length text) room = x ∙ rw (take-length text) in
-    (c ∙ rw (le-leb 13 (length room) long, e, held, t), (y ∙ rw (le-leb 13 (length room) long, e, held, t), counts text (drop (length text) room) exit r c y))
-
-pub no-room : (k : ℕ) (room : List ℕ) → length room < 13 → Written k room 0 room
-unfolding headerCount headerIn
-no-room k room short = (rw (lt-leb 13 (length room) short), (rw (lt-leb 13 (length room) short), counts [] room room 0 refl refl))
-
-pub not-held : (k : ℕ) (room : List ℕ) → 13 ≤ length room → (k ≡ 3 → ⊥) → (k ≡ 4 → ⊥) → (k ≡ 5 → ⊥) → (k ≡ 6 → ⊥) → Written k room 0 room
-unfolding headerCount headerIn heldSize
-not-held k room long a b c d = go (leb 3 k) refl
-  where
-    go : (t : Bool) → leb 3 k ≡ t → Written k room 0 room
-    go false e = (rw (le-leb 13 (length room) long, e), (rw (le-leb 13 (length room) long, e), counts [] room room 0 refl refl))
-    go true e =
-        let f : leb k 6 ≡ false = lt-leb k 6 (omega (arith, leb-true 3 k e)) in
-        (rw (le-leb 13 (length room) long, e, f), (rw (le-leb 13 (length room) long, e, f), counts [] room room 0 refl refl))
+  -- there is no other
+  pub held-all : heldSize k ≡ true → (k ≡ 3 → ⊥) → (k ≡ 4 → ⊥) → (k ≡ 5 → ⊥) → (k ≡ 6 → ⊥) → ⊥
+  unfolding heldSize
+  held-all h a b c d = go (leb 3 k) (leb k 6) refl refl h
+    where
+      go : (s t : Bool) → leb 3 k ≡ s → leb k 6 ≡ t → s && t ≡ true → ⊥
+      go true true e f g = omega (arith, leb-true 3 k e, leb-true k 6 f)
+      go true false e f g = let z : _≡_ {A = ℕ} 0 1 = cc in omega arith
+      go false t e f g = let z : _≡_ {A = ℕ} 0 1 = cc in omega arith
 
 -- ---- the k of a square
 pub oblong : (width height : ℕ) → (width ≡ height → ⊥) → 0 ≡ sideOf width height

@@ -1,20 +1,25 @@
--- The header that stands before the raster of a picture of side 2 ^ k.
-use mathlib.Core.Bool.{_&&_}
+-- The header that stands before the raster of a picture of side 2 ^ k, with a promise in its comment.
+use mathlib.Core.Bool.{Bool, true, not, _&&_}
 use mathlib.Core.List.{List, [], _∷_, _++_}
-use Prim.Native.Nat.{ℕ, zero, suc, _+_, _/_, _%_, _^_}
-use lib.Dec.{ltb, leb}
-use lib.ListN.{length}
-use Rattle.paper.specs.Lists.{pick, over}
+use Prim.Native.Nat.{ℕ, _^_}
+use Rattle.paper.specs.Lists.{pick}
 use Rattle.pgm.specs.Ascii.{ascii, decimal}
+use Rattle.pgm.specs.Header.{isLineEnd}
+use Rattle.words.specs.Line.{Line, _puts_}
 use Rattle.square_pgm.specs.Sides.{heldSize}
 
-unfoldable pub headerText : ℕ → List ℕ
-headerText k = ascii "P5\n" ++ (decimal 2 (2 ^ k) ++ (ascii " " ++ (decimal 2 (2 ^ k) ++ ascii "\n255\n")))
+-- what stands behind the comment: the sides and the largest grey
+unfoldable pub sidesText : ℕ → List ℕ
+sidesText k = ascii "\n" ++ (decimal 2 (2 ^ k) ++ (ascii " " ++ (decimal 2 (2 ^ k) ++ ascii "\n255\n")))
 
--- how many bytes are written: none where the square is not held, or the room is under the longest header's 13 bytes
-unfoldable pub headerCount : ℕ → List ℕ → ℕ
-headerCount k room = pick (leb 13 (length room) && heldSize k) (length (headerText k)) 0
+unfoldable pub headerText : ℕ → List ℕ → List ℕ
+headerText k promise = ascii "P5\n# " ++ (promise ++ sidesText k)
 
--- the room with the header at its front; untouched where none is written
-unfoldable pub headerIn : ℕ → List ℕ → List ℕ
-headerIn k room = pick (leb 13 (length room) && heldSize k) (over (headerText k) room) room
+-- the header put into a line; nothing where the square is not held
+unfoldable pub headed : ℕ → List ℕ → Line → Line
+headed k promise line = pick (heldSize k) (line puts ascii "P5\n# " puts promise puts sidesText k) line
+
+-- a text of one line: nothing in it ends a line
+unfoldable pub isOneLine : List ℕ → Bool
+isOneLine [] = true
+isOneLine (c ∷ s) = not (isLineEnd c) && isOneLine s

@@ -1,9 +1,10 @@
 // Square pictures of side 2 ^ k as PGM: their k from a header's width and height, and a header from their k.
 ghost use mathlib.Core.Path.{_≡_};
-ghost use lib.ListN.{length};
-ghost use Rattle.io.specs.Counts.{Counts};
-ghost use Rattle.square_pgm.specs.Sides.{sideOf};
-ghost use Rattle.square_pgm.specs.Text.{headerCount, headerIn};
+ghost use mathlib.Core.Bool.{true};
+ghost use Rattle.words.specs.Line.{on, _puts_};
+ghost use Rattle.square_pgm.specs.Sides.{heldSize, sideOf};
+ghost use Rattle.square_pgm.specs.Text.{sidesText, headed};
+use words::put;
 
 // k from 3 to 6 with width = height = 2 ^ k, else 0.
 pub fn side_of(width: u32, height: u32) -> u32
@@ -27,21 +28,39 @@ pub fn side_of(width: u32, height: u32) -> u32
     0
 }
 
-// The header of a picture of side 2 ^ k, k from 3 to 6, at the front of `room`, which has 13 bytes or more; its length.
-// Else 0, and nothing is written.
-pub fn write_header(k: u32, room: &mut [u8]) -> usize
-    ensures { λ r. ⌜ r ≡ headerCount k (now (room .entry)) ⌝ }
-    ensures { λ r. ⌜ now (room .exit) ≡ headerIn k (now (room .entry)) ⌝ }
-    ensures { λ r. ⌜ Counts r (now (room .exit)) ⌝ }
+// Whether the square is held: k from 3 to 6.
+fn is_held(k: u32) -> bool
+    ensures { λ r. ⌜ r ≡ heldSize k ⌝ }
 {
-    if room.len() < 13 {
+    if k < 3 {
+        return false;
+    }
+    k <= 6
+}
+
+// What stands behind the comment.
+fn put_sides(k: u32, room: &mut [u8], at: usize) -> usize
+    requires { ⌜ heldSize k ≡ true ⌝ }
+    ensures { λ r. ⌜ on (now (room .entry)) at puts sidesText k ≡ on (now (room .exit)) r ⌝ }
+{
+    match k {
+        3 => put(b"\n8 8\n255\n", room, at),
+        4 => put(b"\n16 16\n255\n", room, at),
+        5 => put(b"\n32 32\n255\n", room, at),
+        6 => put(b"\n64 64\n255\n", room, at),
+        _ => at,
+    }
+}
+
+// The header of a picture of side 2 ^ k, k from 3 to 6, with a promise in its comment, at the front of `room`; its length.
+// Else 0, and nothing is written.
+pub fn write_header(k: u32, promise: &[u8], room: &mut [u8]) -> usize
+    ensures { λ r. ⌜ headed k (now (promise .entry)) (on (now (room .entry)) 0) ≡ on (now (room .exit)) r ⌝ }
+{
+    if !is_held(k) {
         return 0;
     }
-    match k {
-        3 => bytes::copy(b"P5\n8 8\n255\n", room),
-        4 => bytes::copy(b"P5\n16 16\n255\n", room),
-        5 => bytes::copy(b"P5\n32 32\n255\n", room),
-        6 => bytes::copy(b"P5\n64 64\n255\n", room),
-        _ => 0,
-    }
+    let magic = put(b"P5\n# ", room, 0);
+    let told = put(promise, room, magic);
+    put_sides(k, room, told)
 }

@@ -6,9 +6,9 @@ use Prim.Native.Nat.{ℕ, _+_, _-_, _<_, _≤_}
 use native.Mathlib.Omega.{arith}
 use native.Mathlib.Nat.{add-zero}
 use lib.Dec.{leb}
-use lib.ListN.{length, take, drop, length-drop, drop-of-length-le, take-append-drop}
+use lib.ListN.{length, take, drop, length-append, length-take, length-drop, drop-of-length-le, take-append-drop}
 use lib.Seq.{take-all, take-length, drop-drop}
-use borrow.Author.Tests.{le-leb, lt-leb}
+use borrow.Author.Tests.{le-leb, lt-leb, leb-true}
 use Rattle.paper.specs.Lists.{pick}
 use Rattle.words.specs.Line.{Line, on, _puts_}
 
@@ -33,3 +33,24 @@ put-nothing line = rw (add-zero (line .at), take-append-drop (line .at) (line .b
     go : (b : Bool) → pick b line line ≡ line
     go true = refl
     go false = refl
+
+-- ---- a line's place stays within its room
+abbrev pub Inside : Line → Type 0
+Inside line = line .at ≤ length (line .bytes)
+
+pub puts-inside : (line : Line) (text : List ℕ) → Inside line → Inside (line puts text)
+unfolding _puts_
+puts-inside line text h = go (leb (line .at + length text) (length (line .bytes))) refl
+  where
+    go : (b : Bool) → leb (line .at + length text) (length (line .bytes)) ≡ b → Inside (pick b (on (take (line .at) (line .bytes) ++ (text ++ drop (line .at + length text) (line .bytes))) (line .at + length text)) line)
+    go false e = h
+    go true e =
+        omega (arith, length-append (take (line .at) (line .bytes)) (text ++ drop (line .at + length text) (line .bytes)), length-append text (drop (line .at + length text) (line .bytes)), length-take (line .at) (line .bytes), length-drop (line .at + length text) (line .bytes), leb-true (line .at + length text) (length (line .bytes)) e)
+
+pub pick-inside : (b : Bool) (x y : Line) → Inside x → Inside y → Inside (pick b x y)
+pick-inside true x y h k = h
+pick-inside false x y h k = k
+
+-- what a line became, and that it ends within its room
+pub and-inside : (line : Line) (bytes : List ℕ) (at : ℕ) → Inside line → line ≡ on bytes at → (line ≡ on bytes at) × (at ≤ length bytes)
+and-inside line bytes at h e = (e, rw e at h)

@@ -48,24 +48,6 @@ slice-aggregate-put-7 c = refl
 put-requires-7 : tie.Need-put-requires-7
 put-requires-7 c κs = tt
 
-slice-aggregate-put-8 : tie.Need-slice-aggregate-put-8
-slice-aggregate-put-8 c = refl
-
-put-requires-8 : tie.Need-put-requires-8
-put-requires-8 c κs = tt
-
-slice-aggregate-put-9 : tie.Need-slice-aggregate-put-9
-slice-aggregate-put-9 c = refl
-
-put-requires-9 : tie.Need-put-requires-9
-put-requires-9 c κs = tt
-
-slice-aggregate-put-10 : tie.Need-slice-aggregate-put-10
-slice-aggregate-put-10 c = refl
-
-put-requires-10 : tie.Need-put-requires-10
-put-requires-10 c κs = tt
-
 same-length : tie.Need-same-length
 same-length c = search needs
 
@@ -115,29 +97,8 @@ returns-7 : tie.Need-returns-7
 unfolding meanings
 returns-7 c = rw (c .before .before .before .before .before .match .keys7) (c .before .before .put7 .ensures)
 
-same-length-8 : tie.Need-same-length-8
-same-length-8 c = search needs
-
 returns-8 : tie.Need-returns-8
-unfolding meanings
-returns-8 c = rw (c .before .before .before .before .before .match .keys8) (c .before .before .put8 .ensures)
-
-same-length-9 : tie.Need-same-length-9
-same-length-9 c = search needs
-
-returns-9 : tie.Need-returns-9
-unfolding meanings
-returns-9 c = rw (c .before .before .before .before .before .match .keys9) (c .before .before .put9 .ensures)
-
-same-length-10 : tie.Need-same-length-10
-same-length-10 c = search needs
-
-returns-10 : tie.Need-returns-10
-unfolding meanings
-returns-10 c = rw (c .before .before .before .before .before .match .keys10) (c .before .before .put10 .ensures)
-
-returns-11 : tie.Need-returns-11
-returns-11 c = rw (unmeant _ (c .match .rest .0 .0 .0 .0 .0 .0 .0 .0 .0 .1) (c .match .rest .0 .0 .0 .0 .0 .0 .0 .0 .1) (c .match .rest .0 .0 .0 .0 .0 .0 .0 .1) (c .match .rest .0 .0 .0 .0 .0 .0 .1) (c .match .rest .0 .0 .0 .0 .0 .1) (c .match .rest .0 .0 .0 .0 .1) (c .match .rest .0 .0 .0 .1) (c .match .rest .0 .0 .1) (c .match .rest .0 .1) (c .match .rest .1)) (put-nothing _)
+returns-8 c = let r = c .match .rest in rw (unmeant _ (r .0 .0 .0 .0 .0 .0 .1) (r .0 .0 .0 .0 .0 .1) (r .0 .0 .0 .0 .1) (r .0 .0 .0 .1) (r .0 .0 .1) (r .0 .1) (r .1)) (put-nothing _)
 
 pub put-meaning-spec : {M : Type 1} → statement M
 put-meaning-spec =
@@ -157,12 +118,6 @@ put-meaning-spec =
     put-requires-6
     slice-aggregate-put-7
     put-requires-7
-    slice-aggregate-put-8
-    put-requires-8
-    slice-aggregate-put-9
-    put-requires-9
-    slice-aggregate-put-10
-    put-requires-10
     same-length
     returns
     same-length-2
@@ -177,10 +132,4 @@ put-meaning-spec =
     returns-6
     same-length-7
     returns-7
-    same-length-8
-    returns-8
-    same-length-9
-    returns-9
-    same-length-10
-    returns-10
-    returns-11)
+    returns-8)

@@ -1,98 +1,48 @@
-use mathlib.Core.Path.{refl}
-use Prim.Native.Nat.{_<_}
-use native.Mathlib.Omega.{arith}
-use lib.ListN.{length}
-use Rattle.pgm.specs.Ascii.{decimal}
-use Rattle.square_pgm.specs.Sides.{heldSize}
-use Rattle.square_pgm.specs.Text.{headerText}
-use Rattle.square_pgm.proofs.Laws.{written, no-room, not-held}
+use mathlib.Core.Path.{sym, _∙_}
+use borrow.Author.Tests.{not-true, not-false}
+use Rattle.square_pgm.specs.Text.{headed}
 use borrow.Author.Needs.{needs}
 use Rattle.square_pgm.proofs.write_header.Statement.{statement}
 use Rattle.square_pgm.proofs.write_header.Tie as tie
+use Rattle.square_pgm.proofs.is_held.Reads as is-held-reads
+use Rattle.square_pgm.proofs.put_sides.Reads as put-sides-reads
+use Rattle.words.proofs.put.Reads as put-reads
+
+is-held-requires : tie.Need-is-held-requires
+is-held-requires c κs = search needs
 
 returns : tie.Need-returns
-returns c =
-    let short : length (c .before .before .args .room .now) < 13 = omega arith in no-room _ _ short
+unfolding headed
+returns c = rw (sym (c .before .is-held .ensures) ∙ not-true _ (c .if1 .taken))
 
-slice-aggregate-copy : tie.Need-slice-aggregate-copy
-slice-aggregate-copy c = refl
+slice-aggregate-put : tie.Need-slice-aggregate-put
+slice-aggregate-put c = search needs
 
-copy-requires : tie.Need-copy-requires
-copy-requires c κs = omega arith
+put-requires : tie.Need-put-requires
+put-requires c κs = search needs
 
-slice-aggregate-copy-2 : tie.Need-slice-aggregate-copy-2
-slice-aggregate-copy-2 c = refl
+put-requires-2 : tie.Need-put-requires-2
+put-requires-2 c κs = search needs
 
-copy-requires-2 : tie.Need-copy-requires-2
-copy-requires-2 c κs = omega arith
-
-slice-aggregate-copy-3 : tie.Need-slice-aggregate-copy-3
-slice-aggregate-copy-3 c = refl
-
-copy-requires-3 : tie.Need-copy-requires-3
-copy-requires-3 c κs = omega arith
-
-slice-aggregate-copy-4 : tie.Need-slice-aggregate-copy-4
-slice-aggregate-copy-4 c = refl
-
-copy-requires-4 : tie.Need-copy-requires-4
-copy-requires-4 c κs = omega arith
+put-sides-requires : tie.Need-put-sides-requires
+put-sides-requires c κs = sym (c .before .before .before .before .before .before .before .before .before .before .before .is-held .ensures) ∙ not-false _ (c .before .before .before .before .before .before .before .before .before .before .if1 .left)
 
 same-length : tie.Need-same-length
 same-length c = search needs
 
 returns-2 : tie.Need-returns-2
-unfolding heldSize decimal headerText
-returns-2 c =
-    written _ 3 _ _ _ _ (c .before .before .before .before .before .before .if1 .left) (c .before .before .before .before .before .match .keys1) refl refl (c .before .before .copy .ensures .0) (c .before .before .copy .ensures .1)
-
-same-length-2 : tie.Need-same-length-2
-same-length-2 c = search needs
-
-returns-3 : tie.Need-returns-3
-unfolding heldSize decimal headerText
-returns-3 c =
-    written _ 4 _ _ _ _ (c .before .before .before .before .before .before .if1 .left) (c .before .before .before .before .before .match .keys2) refl refl (c .before .before .copy2 .ensures .0) (c .before .before .copy2 .ensures .1)
-
-same-length-3 : tie.Need-same-length-3
-same-length-3 c = search needs
-
-returns-4 : tie.Need-returns-4
-unfolding heldSize decimal headerText
-returns-4 c =
-    written _ 5 _ _ _ _ (c .before .before .before .before .before .before .if1 .left) (c .before .before .before .before .before .match .keys3) refl refl (c .before .before .copy3 .ensures .0) (c .before .before .copy3 .ensures .1)
-
-same-length-4 : tie.Need-same-length-4
-same-length-4 c = search needs
-
-returns-5 : tie.Need-returns-5
-unfolding heldSize decimal headerText
-returns-5 c =
-    written _ 6 _ _ _ _ (c .before .before .before .before .before .before .if1 .left) (c .before .before .before .before .before .match .keys4) refl refl (c .before .before .copy4 .ensures .0) (c .before .before .copy4 .ensures .1)
-
-returns-6 : tie.Need-returns-6
-returns-6 c =
-    let r = c .match .rest in not-held _ _ (c .before .if1 .left) (r .0 .0 .0 .1) (r .0 .0 .1) (r .0 .1) (r .1)
+unfolding headed
+returns-2 c = rw (sym (c .before .before .before .before .before .before .before .before .before .before .before .before .before .before .is-held .ensures) ∙ not-false _ (c .before .before .before .before .before .before .before .before .before .before .before .before .before .if1 .left), c .before .before .before .before .before .before .before .before .before .before .put .ensures, c .before .before .before .before .before .before .put2 .ensures) (c .before .before .put-sides .ensures)
 
 pub write-header-spec : {M : Type 1} → statement M
 write-header-spec =
     tie.close
     (tie.spec
+    is-held-requires
     returns
-    slice-aggregate-copy
-    copy-requires
-    slice-aggregate-copy-2
-    copy-requires-2
-    slice-aggregate-copy-3
-    copy-requires-3
-    slice-aggregate-copy-4
-    copy-requires-4
+    slice-aggregate-put
+    put-requires
+    put-requires-2
+    put-sides-requires
     same-length
-    returns-2
-    same-length-2
-    returns-3
-    same-length-3
-    returns-4
-    same-length-4
-    returns-5
-    returns-6)
+    returns-2)

@@ -1,0 +1,256 @@
+//! Grey label pictures, their bits and their blocks.
+//!
+//! A picture has S x S greys of one byte, S = 2^k, k from 3 to 8, row by row. [`forward`] makes wavelet numbers of
+//! them, [`code`] makes bits of the numbers, the most significant plane first, and [`write()`] makes 512-byte blocks of
+//! the bits: the record. A record may be cut anywhere. [`read`] takes its longest run of good blocks, [`decode`] what
+//! their bits settle, and [`inverse`] makes greys of that. [`check`] judges one block by itself.
+//!
+//! The S x S numbers stand in Z order: the place of row r, column c has the bits of r and c by turns, the lowest bit of
+//! c lowest. The levels, L, go from 1 to the smaller of 5 and k - 1; the bit planes, n, from 0 to 18. A label is eight
+//! ASCII digits and never a number: leading zeros count.
+//!
+//! ```
+//! use label::{BLOCK_BYTES, PAYLOAD_BYTES, MOST_PLANES};
+//!
+//! const K: u32 = 3; // side 8
+//! const L: u32 = 2;
+//! const PLACES: usize = label::places(K);
+//! const BLOCKS: usize = label::most_blocks(K, MOST_PLANES);
+//!
+//! # fn main() -> Result<(), label::Refusal> {
+//! // a picture into a record
+//! let picture: [u8; PLACES] = std::array::from_fn(|place| (3 * place) as u8);
+//! let mut numbers = [0; PLACES];
+//! let mut bytes = [0; label::most_bytes(K, MOST_PLANES)];
+//! let mut record = [0; BLOCKS * BLOCK_BYTES];
+//! label::forward(K, L, &picture, &mut numbers)?;
+//! let coded = label::code(K, L, &numbers, usize::MAX, &mut bytes)?;
+//! let blocks = label::write(K, L, coded.n, b"00000417", &bytes, coded.bits, &mut record)?;
+//! let record = &record[..blocks * BLOCK_BYTES];
+//!
+//! // and out of it
+//! let mut payload = [0; BLOCKS * PAYLOAD_BYTES];
+//! let (mut shown, mut room) = ([0; PLACES], [0; PLACES]);
+//! let kept = label::read(record, b"00000417", &mut payload)?;
+//! let settled = label::decode(kept.k, kept.levels, kept.n, &mut numbers, &payload, kept.bits)?;
+//! label::inverse(kept.k, kept.levels, &numbers, &mut shown, &mut room)?;
+//! assert_eq!(label::grey_limit(kept.levels, settled.unfinished), 0);
+//! assert_eq!(shown, picture);
+//! # Ok(())
+//! # }
+//! ```
+//!
+//! # What a call does
+//! Every call takes whatever it is given and ends. What it can't do it refuses, for the lowest reason that applies (see
+//! [`Refusal`]), and then it has changed nothing that it was lent. Nothing is allocated and nothing is kept between
+//! calls. That the code of the archive does its jobs is proved, for every input; that this package declares what the
+//! archive exports is not, and is tried by its tests.
+//!
+//! # What a cut picture is worth
+//! With p planes unfinished no wavelet number's magnitude is above the true one, none is short by more than 2^p - 1,
+//! none that isn't zero has the wrong sign, and no grey is off by more than [`grey_limit`]. With p = 0 it is the very
+//! picture. All that is about bits of one coding: blocks of two shots under one label with the same k, L and n fit
+//! together unnoticed, and what they show was never shot.
+//!
+//! # Linking
+//! The archive is x86-64 code for ELF, as on Linux, and calls `memcpy` and `memset`, nothing else. `build.rs` looks for
+//! `liblabel.a` or `libconsole.a` in the folder that `LABEL_LIB_DIR` names; if that is not set, in `../../../lib`, where
+//! it stands beside the installed package, and in `../../../target/staticlib`, where the source tree has it.
+
+#![no_std]
+#![deny(missing_docs)]
+#![deny(unsafe_code)]
+
+#[cfg(not(all(
+    target_arch = "x86_64",
+    target_pointer_width = "64",
+    not(any(windows, target_vendor = "apple"))
+)))]
+compile_error!("label: the archive is x86-64 code for ELF, as on Linux: build with --target x86_64-unknown-linux-gnu");
+
+#[allow(unsafe_code)]
+pub mod raw;
+mod refusal;
+mod sizes;
+
+pub use refusal::Refusal;
+pub use sizes::{blocks, grey_limit, most_bits, most_blocks, most_bytes, most_levels, places, side};
+pub use sizes::{
+    BLOCK_BYTES, LABEL_BYTES, LEAST_K, MOST_K, MOST_LEVELS, MOST_PLANES, NUMBER_LIMIT, PAYLOAD_BITS, PAYLOAD_BYTES,
+};
+
+/// What [`code`] wrote.
+#[derive(Clone, Copy, Debug, PartialEq, Eq, Hash)]
+pub struct Coded {
+    /// The bits written.
+    pub bits: usize,
+    /// The planes that the numbers need, cut or not.
+    pub n: u32,
+}
+
+/// What [`decode`] settled.
+#[derive(Clone, Copy, Debug, PartialEq, Eq, Hash)]
+pub struct Settled {
+    /// p, the planes that are not finished: 0 is the very picture. What [`grey_limit`] asks for.
+    pub unfinished: u32,
+    /// The bits read; those behind them, if any, say nothing.
+    pub read: usize,
+}
+
+/// What [`read`] kept.
+#[derive(Clone, Copy, Debug, PartialEq, Eq, Hash)]
+pub struct Kept {
+    /// The side is 2^k.
+    pub k: u32,
+    /// The levels, L.
+    pub levels: u32,
+    /// The planes of the whole coding, n.
+    pub n: u32,
+    /// The blocks kept.
+    pub blocks: usize,
+    /// The bits that they hold. Where this is [`PAYLOAD_BITS`] for each block, there may have been more blocks.
+    pub bits: usize,
+    /// Why the block behind them was not kept: [`Refusal::Damaged`], [`Refusal::Fields`] or [`Refusal::Turn`]. None
+    /// where no block came, or the last one kept was not full.
+    pub ended: Option<Refusal>,
+}
+
+/// Greys to wavelet numbers: fills `numbers`, and gives n, the planes that they need.
+///
+/// # Errors
+/// [`Side`](Refusal::Side), [`Levels`](Refusal::Levels), [`Length`](Refusal::Length).
+///
+/// ```
+/// let mut numbers = [7; 64];
+/// assert_eq!(label::forward(3, 2, &[128; 64], &mut numbers), Ok(0)); // a flat picture has no plane
+/// assert_eq!(numbers, [0; 64]);
+/// assert_eq!(label::forward(3, 2, &[128; 63], &mut numbers), Err(label::Refusal::Length));
+/// ```
+pub fn forward(k: u32, levels: u32, picture: &[u8], numbers: &mut [i32]) -> Result<u32, Refusal> {
+    raw::forward(k, levels, picture, numbers).result()
+}
+
+/// Wavelet numbers to bits: writes the first of `limit`, 8 x `bytes.len()` and all, whichever is least.
+///
+/// Spare bits of the last byte written are 0, later bytes untouched. The coding may have been cut where as many bits
+/// were written as `limit` or as the bytes have; with [`most_bytes`] of room and no limit (`usize::MAX`) it never is.
+///
+/// # Errors
+/// [`Side`](Refusal::Side), [`Levels`](Refusal::Levels), [`Length`](Refusal::Length), [`Number`](Refusal::Number).
+///
+/// ```
+/// let mut numbers = [0; 64];
+/// numbers[0] = 5;
+/// let mut bytes = [0xFF; 4];
+/// assert_eq!(label::code(3, 2, &numbers, usize::MAX, &mut bytes), Ok(label::Coded { bits: 17, n: 3 }));
+/// assert_eq!(bytes, [0xC0, 0x08, 0x00, 0xFF]);
+/// ```
+pub fn code(k: u32, levels: u32, numbers: &[i32], limit: usize, bytes: &mut [u8]) -> Result<Coded, Refusal> {
+    raw::code(k, levels, numbers, limit, bytes).result()
+}
+
+/// Bits to wavelet numbers: writes all S x S numbers, those that the first `b` bits settle and 0 elsewhere, whatever
+/// the slice held.
+///
+/// # Errors
+/// [`Side`](Refusal::Side), [`Levels`](Refusal::Levels), [`Length`](Refusal::Length), [`Planes`](Refusal::Planes),
+/// [`Room`](Refusal::Room).
+///
+/// ```
+/// let bytes = [0xC0, 0x08, 0x00];
+/// let mut numbers = [9; 64];
+/// let settled = label::decode(3, 2, 3, &mut numbers, &bytes, 7).unwrap();
+/// assert_eq!((settled.unfinished, numbers[0]), (2, 4)); // of 5, with 7 of 17 bits
+/// assert_eq!(label::decode(3, 2, 3, &mut numbers, &bytes, 25), Err(label::Refusal::Room));
+/// ```
+pub fn decode(k: u32, levels: u32, n: u32, numbers: &mut [i32], bytes: &[u8], b: usize) -> Result<Settled, Refusal> {
+    raw::decode(k, levels, n, numbers, bytes, b).result()
+}
+
+/// Wavelet numbers to greys: fills the picture.
+///
+/// `room` ends with the greys before they are set into 0 to 255, in Z order.
+///
+/// # Errors
+/// [`Side`](Refusal::Side), [`Levels`](Refusal::Levels), [`Length`](Refusal::Length), [`Number`](Refusal::Number).
+///
+/// ```
+/// let (mut picture, mut room) = ([0; 64], [0; 64]);
+/// label::inverse(3, 2, &[0; 64], &mut picture, &mut room).unwrap();
+/// assert_eq!(picture, [128; 64]);
+/// ```
+pub fn inverse(k: u32, levels: u32, numbers: &[i32], picture: &mut [u8], room: &mut [i32]) -> Result<(), Refusal> {
+    refusal::judged(raw::inverse(k, levels, numbers, picture, room), ())
+}
+
+/// Bits to blocks: writes the record of the first `b` bits at the front of `room`, and gives its count of blocks.
+///
+/// It takes [`BLOCK_BYTES`] for each of [`blocks`]`(b)`; what lies behind is untouched.
+///
+/// # Errors
+/// [`Side`](Refusal::Side), [`Levels`](Refusal::Levels), [`Planes`](Refusal::Planes), [`Room`](Refusal::Room) (more
+/// bits than the bytes have or than n planes can have, or too little room), [`Label`](Refusal::Label).
+///
+/// ```
+/// let mut record = [0; 512];
+/// assert_eq!(label::write(3, 2, 0, b"00000417", &[], 0, &mut record), Ok(1));
+/// assert_eq!(record[508..], [0x01, 0x92, 0x0D, 0x54]);
+/// assert_eq!(label::write(3, 2, 0, b"417", &[], 0, &mut record), Err(label::Refusal::Label));
+/// ```
+pub fn write(
+    k: u32,
+    levels: u32,
+    n: u32,
+    label: &[u8],
+    bytes: &[u8],
+    b: usize,
+    room: &mut [u8],
+) -> Result<usize, Refusal> {
+    raw::write(k, levels, n, label, bytes, b, room).result()
+}
+
+/// Blocks to bits: keeps the longest run of good blocks from the front, and puts their payload at the front of `room`.
+///
+/// `room` takes [`PAYLOAD_BYTES`] for each whole block of `blocks`. Whatever stands behind the run counts for nothing;
+/// what ended it is told by [`Kept::ended`]. The label is the one expected, and may be part of the blocks themselves.
+///
+/// The run is of one record as far as blocks can tell: same k, L, n and label, numbered in turn. Blocks of another shot
+/// under the same label may have all of these, and then nobody can tell.
+///
+/// # Errors
+/// [`Room`](Refusal::Room) (under 512 bytes, or too little room), [`Label`](Refusal::Label), and where block 0 can't be
+/// kept [`Damaged`](Refusal::Damaged), [`Fields`](Refusal::Fields) or [`Turn`](Refusal::Turn).
+///
+/// ```
+/// use label::Refusal;
+///
+/// let mut record = [0; 512];
+/// label::write(3, 2, 3, b"00000417", &[0xC0, 0x08, 0x00], 17, &mut record).unwrap();
+/// let mut room = [0; label::PAYLOAD_BYTES];
+/// let kept = label::read(&record, b"00000417", &mut room).unwrap();
+/// assert_eq!((kept.k, kept.levels, kept.n, kept.blocks, kept.bits, kept.ended), (3, 2, 3, 1, 17, None));
+/// assert_eq!(label::read(&record, b"00000418", &mut room), Err(Refusal::Turn));
+/// record[16] ^= 1;
+/// assert_eq!(label::read(&record, b"00000417", &mut room), Err(Refusal::Damaged));
+/// ```
+pub fn read(blocks: &[u8], label: &[u8], room: &mut [u8]) -> Result<Kept, Refusal> {
+    raw::read(blocks, label, room).result()
+}
+
+/// Judges one block, but neither its number nor whose label it has.
+///
+/// # Errors
+/// [`Room`](Refusal::Room) (not 512 bytes), [`Damaged`](Refusal::Damaged), [`Fields`](Refusal::Fields).
+///
+/// ```
+/// assert_eq!(label::check(&[0; 511]), Err(label::Refusal::Room));
+/// assert_eq!(label::check(&[0; 512]), Err(label::Refusal::Fields)); // its checks are right: there is no edition 0
+/// ```
+pub fn check(block: &[u8]) -> Result<(), Refusal> {
+    refusal::judged(raw::check(block), ())
+}
+
+/// The examples of the README run too.
+#[cfg(doctest)]
+#[doc = include_str!("../README.md")]
+struct Readme;

@@ -1,0 +1,115 @@
+//! The refusals by name.
+
+use core::error::Error;
+use core::fmt;
+
+/// Why a call was refused: the lowest of these that applies.
+///
+/// A refused call has changed no byte and no number that it was lent. The numbers are those of the record's paper, and
+/// of `label.h`:
+///
+/// ```
+/// use label::Refusal;
+///
+/// let refused = label::read(b"too short", b"00000417", &mut []).unwrap_err();
+/// assert_eq!(refused, Refusal::Room);
+/// assert_eq!(refused.number(), 6);
+/// ```
+#[derive(Clone, Copy, Debug, PartialEq, Eq, PartialOrd, Ord, Hash)]
+#[non_exhaustive]
+#[repr(u32)]
+pub enum Refusal {
+    /// 1: k is not in 3 to 8.
+    Side = 1,
+    /// 2: the levels are not in 1 to [`most_levels`](crate::most_levels).
+    Levels = 2,
+    /// 3: a slice of greys or numbers is not [`places`](crate::places) long.
+    Length = 3,
+    /// 4: a number is beyond ±[`NUMBER_LIMIT`](crate::NUMBER_LIMIT).
+    Number = 4,
+    /// 5: n is above [`MOST_PLANES`](crate::MOST_PLANES).
+    Planes = 5,
+    /// 6: more bits than the bytes lent have, or than n planes can have; under 512 bytes to read, or to write for each
+    /// block; under 492 bytes of room for each whole block to read; a block to check that is not 512 bytes.
+    Room = 6,
+    /// 7: the label given is not eight digits.
+    Label = 7,
+    /// 8: a block's check A or B is wrong.
+    Damaged = 8,
+    /// 9: a block's edition, k, L, n, label, payload count or an unused bit is wrong.
+    Fields = 9,
+    /// 10: a block's number is out of turn, its bytes 0 to 11 are unlike block 0's, or its label unlike the one expected.
+    Turn = 10,
+}
+
+impl Refusal {
+    /// All refusals, by their numbers.
+    pub const ALL: [Refusal; 10] = [
+        Refusal::Side,
+        Refusal::Levels,
+        Refusal::Length,
+        Refusal::Number,
+        Refusal::Planes,
+        Refusal::Room,
+        Refusal::Label,
+        Refusal::Damaged,
+        Refusal::Fields,
+        Refusal::Turn,
+    ];
+
+    /// The refusal's number, 1 to 10.
+    #[must_use]
+    pub const fn number(self) -> u32 {
+        self as u32
+    }
+
+    /// The refusal that has this number; none for 0 and above 10.
+    ///
+    /// ```
+    /// use label::Refusal;
+    ///
+    /// assert_eq!(Refusal::from_number(8), Some(Refusal::Damaged));
+    /// assert_eq!(Refusal::from_number(0), None);
+    /// ```
+    #[must_use]
+    pub const fn from_number(number: u32) -> Option<Refusal> {
+        if number >= 1 && number <= Self::ALL.len() as u32 {
+            Some(Self::ALL[number as usize - 1])
+        } else {
+            None
+        }
+    }
+}
+
+impl fmt::Display for Refusal {
+    fn fmt(&self, to: &mut fmt::Formatter<'_>) -> fmt::Result {
+        to.write_str(match self {
+            Refusal::Side => "k is not in 3 to 8",
+            Refusal::Levels => "the levels are not in 1 to the smaller of 5 and k - 1",
+            Refusal::Length => "a slice of greys or numbers is not S x S long",
+            Refusal::Number => "a number is beyond 262143 on either side of 0",
+            Refusal::Planes => "there are more than 18 planes",
+            Refusal::Room => "too few bytes, too little room, or too many bits",
+            Refusal::Label => "the label given is not eight digits; leading zeros count",
+            Refusal::Damaged => "a block is damaged, a check is wrong",
+            Refusal::Fields => "a block is no block of edition 1, a field is wrong",
+            Refusal::Turn => "a block is not the next block of this record",
+        })
+    }
+}
+
+impl Error for Refusal {}
+
+/// A plain answer as a result: the refusal by name where its number is not 0.
+///
+/// # Panics
+/// If the number is above 10. The archive has no such answer: it would be one of another version than the package.
+pub(crate) const fn judged<T: Copy>(number: u32, answer: T) -> Result<T, Refusal> {
+    if number == 0 {
+        return Ok(answer);
+    }
+    match Refusal::from_number(number) {
+        Some(refusal) => Err(refusal),
+        None => panic!("label: a refusal above 10; the archive is not of this package's version"),
+    }
+}

@@ -1,0 +1,124 @@
+//! Limits, and how much a caller has to lend. All of it can be worked out when a program is compiled.
+
+/// The least k of a side 2^k.
+pub const LEAST_K: u32 = 3;
+/// The largest k of a side 2^k.
+pub const MOST_K: u32 = 8;
+/// The most levels, whatever the side.
+pub const MOST_LEVELS: u32 = 5;
+/// The most bit planes.
+pub const MOST_PLANES: u32 = 18;
+/// The largest magnitude of a wavelet number.
+pub const NUMBER_LIMIT: i32 = 262_143;
+/// The bytes of a label.
+pub const LABEL_BYTES: usize = 8;
+/// The bytes of a block.
+pub const BLOCK_BYTES: usize = 512;
+/// The bytes of a block that hold bits of the coding.
+pub const PAYLOAD_BYTES: usize = 492;
+/// The bits of the coding that a full block holds.
+pub const PAYLOAD_BITS: usize = 8 * PAYLOAD_BYTES;
+
+/// S, the side of a picture, 2^k; 0 where k is out of its range.
+#[must_use]
+pub const fn side(k: u32) -> usize {
+    if k >= LEAST_K && k <= MOST_K {
+        1 << k
+    } else {
+        0
+    }
+}
+
+/// S x S, the greys of a picture and its numbers; 0 where k is out of its range.
+///
+/// ```
+/// static PICTURE: [u8; label::places(6)] = [128; label::places(6)];
+///
+/// assert_eq!(PICTURE.len(), 64 * 64);
+/// ```
+#[must_use]
+pub const fn places(k: u32) -> usize {
+    side(k) * side(k)
+}
+
+/// The most levels that a side allows, the smaller of 5 and k - 1; 0 where k is out of its range.
+#[must_use]
+pub const fn most_levels(k: u32) -> u32 {
+    if side(k) == 0 {
+        0
+    } else if k > MOST_LEVELS {
+        MOST_LEVELS
+    } else {
+        k - 1
+    }
+}
+
+/// The most bits that a coding of n planes has, n(4S² - 1)/3 + S²; 0 where k or n is out of its range.
+///
+/// Numbers of any kind have at most [`MOST_PLANES`] planes. A caller that knows n already, from
+/// [`forward`](crate::forward), may lend less.
+#[must_use]
+pub const fn most_bits(k: u32, n: u32) -> usize {
+    if side(k) == 0 || n > MOST_PLANES {
+        return 0;
+    }
+    n as usize * ((4 * places(k) - 1) / 3) + places(k)
+}
+
+/// The bytes that the most bits fill: what [`code`](crate::code) is lent so that its room cuts nothing off.
+#[must_use]
+pub const fn most_bytes(k: u32, n: u32) -> usize {
+    most_bits(k, n).div_ceil(8)
+}
+
+/// The blocks of a record of so many bits: one at least, and one for each 3,936 bits begun.
+#[must_use]
+pub const fn blocks(bits: usize) -> usize {
+    if bits == 0 {
+        1
+    } else {
+        bits.div_ceil(PAYLOAD_BITS)
+    }
+}
+
+/// The most blocks of a record of n planes; 0 where k or n is out of its range.
+///
+/// Its record takes [`BLOCK_BYTES`] for each of them, and the room to read it [`PAYLOAD_BYTES`].
+///
+/// ```
+/// const BLOCKS: usize = label::most_blocks(6, label::MOST_PLANES);
+/// let record = [0; BLOCKS * label::BLOCK_BYTES];
+///
+/// assert_eq!(record.len(), 27 * 512);
+/// ```
+#[must_use]
+pub const fn most_blocks(k: u32, n: u32) -> usize {
+    if most_bits(k, n) == 0 {
+        0
+    } else {
+        blocks(most_bits(k, n))
+    }
+}
+
+/// What a picture is worth with p planes unfinished: no grey is off by more than min(255, (7L + 1)(2^p - 1)).
+///
+/// It is 0 for p = 0, and 255, which promises nothing, where the formula goes beyond that, whatever it is given. The
+/// promise is about the blocks of one coding: see [`read`](crate::read).
+///
+/// ```
+/// assert_eq!(label::grey_limit(2, 2), 45);
+/// assert_eq!(label::grey_limit(2, 0), 0);
+/// assert_eq!(label::grey_limit(u32::MAX, u32::MAX), 255);
+/// ```
+#[must_use]
+pub const fn grey_limit(levels: u32, unfinished: u32) -> u8 {
+    if unfinished >= 8 {
+        return u8::MAX;
+    }
+    let limit = (7 * levels as u64 + 1) * ((1 << unfinished) - 1);
+    if limit < u8::MAX as u64 {
+        limit as u8
+    } else {
+        u8::MAX
+    }
+}

@@ -1,0 +1,124 @@
+//! Pictures there and back, whole and cut, at every side and every number of levels.
+
+mod pictures;
+
+use label::{BLOCK_BYTES, PAYLOAD_BITS, PAYLOAD_BYTES};
+use pictures::{coding, pictures, record, sizes, Chance, LABEL};
+
+/// What decoded numbers and greys are worth against the true ones, with p planes unfinished.
+fn as_good_as_promised(levels: u32, unfinished: u32, numbers: &[i32], truth: &[i32], shown: &[u8], picture: &[u8]) {
+    for (number, truth) in numbers.iter().zip(truth) {
+        assert!(number.abs() <= truth.abs(), "a number above the true one");
+        assert!(truth.abs() - number.abs() < 1 << unfinished, "a number too short");
+        assert!(*number == 0 || (*number < 0) == (*truth < 0), "a wrong sign");
+    }
+    let limit = label::grey_limit(levels, unfinished);
+    for (grey, truth) in shown.iter().zip(picture) {
+        assert!(grey.abs_diff(*truth) <= limit, "a grey is off by more than {limit}");
+    }
+}
+
+#[test]
+fn there_and_back() {
+    for (k, levels) in sizes() {
+        for picture in pictures(k) {
+            let coding = coding(k, levels, &picture);
+            let record = record(k, levels, &coding);
+            for block in record.chunks(BLOCK_BYTES) {
+                assert_eq!(label::check(block), Ok(()));
+            }
+            let mut payload = vec![0x55; record.len() / BLOCK_BYTES * PAYLOAD_BYTES];
+            let kept = label::read(&record, LABEL, &mut payload).expect("what was written");
+            assert_eq!(
+                (kept.k, kept.levels, kept.n, kept.bits),
+                (k, levels, coding.n, coding.bits)
+            );
+            assert_eq!((kept.blocks, kept.ended), (label::blocks(coding.bits), None));
+
+            let (mut numbers, mut shown, mut room) = (coding.numbers.clone(), picture.clone(), coding.numbers.clone());
+            numbers.fill(-5);
+            shown.fill(1);
+            let settled = label::decode(k, levels, kept.n, &mut numbers, &payload, kept.bits).expect("what was kept");
+            assert_eq!((settled.unfinished, settled.read), (0, coding.bits));
+            assert_eq!(numbers, coding.numbers);
+            label::inverse(k, levels, &numbers, &mut shown, &mut room).expect("what was settled");
+            assert_eq!(shown, picture, "the very picture, k {k}, {levels} levels");
+        }
+    }
+}
+
+#[test]
+fn a_cut_record_keeps_its_promise() {
+    let (mut cut, mut unlike) = (0, 0);
+    for (k, levels) in sizes().filter(|(k, _)| *k < 8) {
+        for picture in pictures(k) {
+            let coding = coding(k, levels, &picture);
+            let record = record(k, levels, &coding);
+            let blocks = record.len() / BLOCK_BYTES;
+            let mut last = 18;
+            // a cut within a block is worth as much as one at its front
+            for length in (1..=blocks).map(|count| (count * BLOCK_BYTES + count * 7 % 512).min(record.len())) {
+                let count = length / BLOCK_BYTES;
+                let mut payload = vec![0x55; count * PAYLOAD_BYTES];
+                let kept = label::read(&record[..length], LABEL, &mut payload).expect("whole blocks open");
+                assert_eq!((kept.k, kept.levels, kept.n), (k, levels, coding.n));
+                assert_eq!((kept.blocks, kept.ended), (count, None));
+                assert_eq!(kept.bits, coding.bits.min(count * PAYLOAD_BITS));
+
+                let places = label::places(k);
+                let (mut numbers, mut shown, mut room) = (vec![9; places], vec![9; places], vec![9; places]);
+                let settled = label::decode(k, levels, kept.n, &mut numbers, &payload, kept.bits).expect("bits");
+                label::inverse(k, levels, &numbers, &mut shown, &mut room).expect("numbers");
+                as_good_as_promised(levels, settled.unfinished, &numbers, &coding.numbers, &shown, &picture);
+                assert!(settled.unfinished <= last, "more blocks, and more planes unfinished");
+                assert_eq!(settled.unfinished == 0, count == blocks);
+                last = settled.unfinished;
+                cut += usize::from(count < blocks);
+                unlike += usize::from(shown != picture);
+            }
+        }
+    }
+    assert!(
+        cut > 100 && unlike > 100,
+        "{cut} cut records, of which {unlike} show it"
+    );
+}
+
+#[test]
+fn a_coding_cut_at_any_bit_keeps_its_promise() {
+    let mut chance = Chance::new(417);
+    for (k, levels) in sizes().filter(|(k, _)| *k < 6) {
+        for picture in pictures(k) {
+            let coding = coding(k, levels, &picture);
+            for _ in 0..20 {
+                let limit = chance.below(coding.bits + 1);
+                let mut bytes = vec![0xFF; coding.bytes.len()];
+                let cut = label::code(k, levels, &coding.numbers, limit, &mut bytes).expect("numbers");
+                assert_eq!((cut.bits, cut.n), (limit, coding.n));
+                assert!(
+                    bytes[limit.div_ceil(8)..].iter().all(|byte| *byte == 0xFF),
+                    "a later byte was touched"
+                );
+
+                // the room of a coding cuts it as a limit does
+                let room = limit / 8;
+                let by_room = label::code(k, levels, &coding.numbers, usize::MAX, &mut bytes[..room]).expect("numbers");
+                assert_eq!(by_room.bits, coding.bits.min(8 * room));
+
+                let places = label::places(k);
+                let (mut numbers, mut shown, mut work) = (vec![9; places], vec![9; places], vec![9; places]);
+                let settled = label::decode(k, levels, cut.n, &mut numbers, &bytes, limit).expect("bits");
+                label::inverse(k, levels, &numbers, &mut shown, &mut work).expect("numbers");
+                as_good_as_promised(levels, settled.unfinished, &numbers, &coding.numbers, &shown, &picture);
+            }
+        }
+    }
+}
+
+#[test]
+fn a_label_that_is_part_of_the_record() {
+    let picture = &pictures(4)[2];
+    let record = record(4, 3, &coding(4, 3, picture));
+    let mut payload = vec![0; record.len()];
+    assert!(label::read(&record, &record[4..12], &mut payload).is_ok());
+}

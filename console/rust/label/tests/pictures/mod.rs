@@ -1,0 +1,82 @@
+//! Pictures, numbers and labels that the tests share.
+#![allow(dead_code)] // no test needs all of them
+
+pub const LABEL: &[u8; 8] = b"00000417";
+
+/// Numbers by chance, the same in every run.
+pub struct Chance(u64);
+
+impl Chance {
+    pub fn new(seed: u64) -> Self {
+        Chance(seed.wrapping_mul(0x9E37_79B9_7F4A_7C15) | 1)
+    }
+
+    pub fn below(&mut self, end: usize) -> usize {
+        self.0 ^= self.0 << 13;
+        self.0 ^= self.0 >> 7;
+        self.0 ^= self.0 << 17;
+        ((self.0 >> 11) % end as u64) as usize
+    }
+}
+
+/// Every k with every number of levels that it allows.
+pub fn sizes() -> impl Iterator<Item = (u32, u32)> {
+    (label::LEAST_K..=label::MOST_K).flat_map(|k| (1..=label::most_levels(k)).map(move |levels| (k, levels)))
+}
+
+/// A flat picture, a ramp, stripes like a label's, and greys by chance.
+pub fn pictures(k: u32) -> [Vec<u8>; 4] {
+    let (side, mut chance) = (label::side(k), Chance::new(u64::from(k)));
+    let draw = |grey: &mut dyn FnMut(usize, usize) -> usize| -> Vec<u8> {
+        let places = (0..side).flat_map(|row| (0..side).map(move |column| (row, column)));
+        places.map(|(row, column)| grey(row, column) as u8).collect()
+    };
+    [
+        draw(&mut |_, _| 200),
+        draw(&mut |row, column| (row + column) * 255 / (2 * side - 2)),
+        draw(&mut |row, column| if row * 3 < side && column % 5 < 2 { 20 } else { 235 }),
+        draw(&mut |_, _| chance.below(256)),
+    ]
+}
+
+/// A picture's numbers, and its coding.
+pub struct Coding {
+    pub numbers: Vec<i32>,
+    pub bytes: Vec<u8>,
+    pub bits: usize,
+    pub n: u32,
+}
+
+pub fn coding(k: u32, levels: u32, picture: &[u8]) -> Coding {
+    let mut numbers = vec![77; label::places(k)];
+    let n = label::forward(k, levels, picture, &mut numbers).expect("a picture");
+    let mut bytes = vec![0xAA; label::most_bytes(k, n)];
+    let coded = label::code(k, levels, &numbers, usize::MAX, &mut bytes).expect("its numbers");
+    assert_eq!(coded.n, n);
+    assert!(coded.bits <= label::most_bits(k, n));
+    Coding {
+        numbers,
+        bytes,
+        bits: coded.bits,
+        n,
+    }
+}
+
+/// A picture's record under LABEL, in a room that is filled to the last byte.
+pub fn record(k: u32, levels: u32, coding: &Coding) -> Vec<u8> {
+    let mut room = vec![0xAA; label::blocks(coding.bits) * label::BLOCK_BYTES];
+    let blocks = label::write(k, levels, coding.n, LABEL, &coding.bytes, coding.bits, &mut room).expect("its bits");
+    assert_eq!(blocks * label::BLOCK_BYTES, room.len());
+    room
+}
+
+/// Sets checks A and B of a block right, whatever else is wrong with it.
+pub fn seal(block: &mut [u8]) {
+    let (mut a, mut b) = (0_u32, 0_u32);
+    for (at, byte) in block[..508].iter().enumerate() {
+        a = (a + u32::from(*byte)) % 65_521;
+        b = (b + (at as u32 + 1) * u32::from(*byte)) % 65_521;
+    }
+    block[508..510].copy_from_slice(&(a as u16).to_be_bytes());
+    block[510..].copy_from_slice(&(b as u16).to_be_bytes());
+}

@@ -1,0 +1,379 @@
+//! Each refusal by its name and number, from every call that has it, and that a refused call changes nothing.
+
+mod pictures;
+
+use label::{raw, Refusal, BLOCK_BYTES, PAYLOAD_BYTES};
+use pictures::{coding, pictures, record, seal, LABEL};
+use std::collections::HashSet;
+
+const ODD: i32 = -77; // what lent slices hold before a call
+const BYTE: u8 = 0x5A;
+
+fn forward(k: u32, levels: u32, picture: usize, numbers: usize) -> Result<u32, Refusal> {
+    let mut lent = vec![ODD; numbers];
+    let answer = label::forward(k, levels, &vec![1; picture], &mut lent);
+    if answer.is_err() {
+        assert!(lent.iter().all(|number| *number == ODD));
+    }
+    answer
+}
+
+fn code(k: u32, levels: u32, numbers: &[i32], bytes: usize) -> Result<label::Coded, Refusal> {
+    let mut lent = vec![BYTE; bytes];
+    let answer = label::code(k, levels, numbers, usize::MAX, &mut lent);
+    if answer.is_err() {
+        assert!(lent.iter().all(|byte| *byte == BYTE));
+    }
+    answer
+}
+
+fn decode(k: u32, levels: u32, n: u32, numbers: usize, bytes: usize, b: usize) -> Result<label::Settled, Refusal> {
+    let mut lent = vec![ODD; numbers];
+    let answer = label::decode(k, levels, n, &mut lent, &vec![0; bytes], b);
+    if answer.is_err() {
+        assert!(lent.iter().all(|number| *number == ODD));
+    }
+    answer
+}
+
+fn inverse(k: u32, levels: u32, numbers: &[i32], picture: usize, room: usize) -> Result<(), Refusal> {
+    let (mut greys, mut work) = (vec![BYTE; picture], vec![ODD; room]);
+    let answer = label::inverse(k, levels, numbers, &mut greys, &mut work);
+    if answer.is_err() {
+        assert!(greys.iter().all(|byte| *byte == BYTE) && work.iter().all(|number| *number == ODD));
+    }
+    answer
+}
+
+fn write(k: u32, levels: u32, n: u32, label: &[u8], bytes: usize, b: usize, room: usize) -> Result<usize, Refusal> {
+    let mut lent = vec![BYTE; room];
+    let answer = label::write(k, levels, n, label, &vec![0; bytes], b, &mut lent);
+    if answer.is_err() {
+        assert!(lent.iter().all(|byte| *byte == BYTE));
+    }
+    answer
+}
+
+fn read(blocks: &[u8], label: &[u8], room: usize) -> Result<label::Kept, Refusal> {
+    let mut lent = vec![BYTE; room];
+    let answer = label::read(blocks, label, &mut lent);
+    if answer.is_err() {
+        assert!(lent.iter().all(|byte| *byte == BYTE));
+    }
+    answer
+}
+
+/// A record of several blocks.
+fn long_record() -> Vec<u8> {
+    let record = record(5, 3, &coding(5, 3, &pictures(5)[3]));
+    assert!(record.len() >= 3 * BLOCK_BYTES);
+    record
+}
+
+fn room_for(blocks: &[u8]) -> usize {
+    blocks.len() / BLOCK_BYTES * PAYLOAD_BYTES
+}
+
+#[test]
+fn sides() {
+    for k in [0, 1, 2, 9, 10, 31, 32, 64, u32::MAX] {
+        assert_eq!(forward(k, 1, 64, 64), Err(Refusal::Side));
+        assert_eq!(code(k, 1, &[0; 64], 100), Err(Refusal::Side));
+        assert_eq!(decode(k, 1, 0, 64, 0, 0), Err(Refusal::Side));
+        assert_eq!(inverse(k, 1, &[0; 64], 64, 64), Err(Refusal::Side));
+        assert_eq!(write(k, 1, 0, LABEL, 0, 0, 512), Err(Refusal::Side));
+    }
+}
+
+#[test]
+fn levels() {
+    for k in 3..=8 {
+        let places = label::places(k);
+        for levels in [0, label::most_levels(k) + 1, k, 6, u32::MAX] {
+            if (1..=label::most_levels(k)).contains(&levels) {
+                continue;
+            }
+            assert_eq!(forward(k, levels, places, places), Err(Refusal::Levels));
+            assert_eq!(code(k, levels, &vec![0; places], 100), Err(Refusal::Levels));
+            assert_eq!(decode(k, levels, 0, places, 0, 0), Err(Refusal::Levels));
+            assert_eq!(
+                inverse(k, levels, &vec![0; places], places, places),
+                Err(Refusal::Levels)
+            );
+            assert_eq!(write(k, levels, 0, LABEL, 0, 0, 512), Err(Refusal::Levels));
+        }
+    }
+}
+
+#[test]
+fn lengths() {
+    for length in (0..64).chain([65, 66, 128, 256]) {
+        assert_eq!(forward(3, 2, length, 64), Err(Refusal::Length));
+        assert_eq!(forward(3, 2, 64, length), Err(Refusal::Length));
+        assert_eq!(code(3, 2, &vec![0; length], 100), Err(Refusal::Length));
+        assert_eq!(decode(3, 2, 0, length, 0, 0), Err(Refusal::Length));
+        assert_eq!(inverse(3, 2, &vec![0; length], 64, 64), Err(Refusal::Length));
+        assert_eq!(inverse(3, 2, &[0; 64], length, 64), Err(Refusal::Length));
+        assert_eq!(inverse(3, 2, &[0; 64], 64, length), Err(Refusal::Length));
+    }
+}
+
+#[test]
+fn numbers() {
+    for (number, good) in [
+        (label::NUMBER_LIMIT, true),
+        (-label::NUMBER_LIMIT, true),
+        (label::NUMBER_LIMIT + 1, false),
+        (-label::NUMBER_LIMIT - 1, false),
+        (i32::MAX, false),
+        (i32::MIN, false),
+    ] {
+        for place in [0, 1, 63] {
+            let mut numbers = [0; 64];
+            numbers[place] = number;
+            let refusal = if good { None } else { Some(Refusal::Number) };
+            assert_eq!(code(3, 2, &numbers, 1000).err(), refusal);
+            assert_eq!(inverse(3, 2, &numbers, 64, 64).err(), refusal);
+        }
+    }
+}
+
+#[test]
+fn planes() {
+    assert!(decode(3, 2, 18, 64, 0, 0).is_ok());
+    assert_eq!(write(3, 2, 18, LABEL, 0, 0, 512), Ok(1));
+    for n in [19, 20, u32::MAX] {
+        assert_eq!(decode(3, 2, n, 64, 0, 0), Err(Refusal::Planes));
+        assert_eq!(write(3, 2, n, LABEL, 0, 0, 512), Err(Refusal::Planes));
+    }
+}
+
+#[test]
+fn room() {
+    // more bits than there are bytes for
+    assert!(decode(3, 2, 18, 64, 2, 16).is_ok());
+    for b in [17, usize::MAX] {
+        assert_eq!(decode(3, 2, 18, 64, 2, b), Err(Refusal::Room));
+        assert_eq!(write(3, 2, 18, LABEL, 2, b, 5120), Err(Refusal::Room));
+    }
+    // more bits than n planes can have
+    let most = label::most_bits(3, 2);
+    assert_eq!(write(3, 2, 2, LABEL, 1000, most, 512), Ok(1));
+    assert_eq!(write(3, 2, 2, LABEL, 1000, most + 1, 512), Err(Refusal::Room));
+    // too little room to write
+    for room in [0, 1, 511] {
+        assert_eq!(write(3, 2, 0, LABEL, 0, 0, room), Err(Refusal::Room));
+    }
+    assert_eq!(write(8, 5, 18, LABEL, 1000, 3936, 512), Ok(1));
+    assert_eq!(write(8, 5, 18, LABEL, 1000, 3937, 1023), Err(Refusal::Room));
+    assert_eq!(write(8, 5, 18, LABEL, 1000, 3937, 1024), Ok(2));
+    // too little to read, or too little room for it
+    let record = long_record();
+    for length in [0, 1, 511] {
+        assert_eq!(read(&record[..length], LABEL, 10_000), Err(Refusal::Room));
+    }
+    assert_eq!(read(&record, LABEL, room_for(&record) - 1), Err(Refusal::Room));
+    assert!(read(&record, LABEL, room_for(&record)).is_ok());
+    // not a block
+    for length in [0, 1, 511, 513, 1024] {
+        assert_eq!(label::check(&record[..length]), Err(Refusal::Room));
+    }
+    assert_eq!(label::check(&record[..512]), Ok(()));
+}
+
+#[test]
+fn labels() {
+    let record = long_record();
+    let none: [&[u8]; 9] = [
+        b"",
+        b"417",
+        b"0000417",
+        b"000000417",
+        b"ABCDEFGH",
+        b"0000041a",
+        b" 0000417",
+        b"0000041\0",
+        b"\xB00000417",
+    ];
+    for label in none {
+        assert_eq!(write(3, 2, 0, label, 0, 0, 512), Err(Refusal::Label));
+        assert_eq!(read(&record, label, room_for(&record)), Err(Refusal::Label));
+    }
+}
+
+#[test]
+fn damage() {
+    let record = long_record();
+    for place in (0..BLOCK_BYTES).step_by(13).chain([508, 509, 510, 511]) {
+        let mut damaged = record.clone();
+        damaged[place] ^= 0x10;
+        assert_eq!(read(&damaged, LABEL, room_for(&record)), Err(Refusal::Damaged));
+        assert_eq!(label::check(&damaged[..512]), Err(Refusal::Damaged));
+        // in a later block it ends the run
+        let mut damaged = record.clone();
+        damaged[BLOCK_BYTES + place] ^= 0x10;
+        let kept = read(&damaged, LABEL, room_for(&record)).expect("block 0 is whole");
+        assert_eq!((kept.blocks, kept.ended), (1, Some(Refusal::Damaged)));
+        assert_eq!(kept.bits, label::PAYLOAD_BITS);
+    }
+}
+
+#[test]
+fn fields() {
+    let record = long_record();
+    for (place, byte) in [
+        (0, 0),
+        (0, 2),
+        (1, 2),
+        (1, 9),
+        (2, 0),
+        (2, 5),
+        (3, 19),
+        (4, b'a'),
+        (11, b' '),
+        (14, 0xFF),
+    ] {
+        let mut wrong = record.clone();
+        wrong[place] = byte;
+        seal(&mut wrong[..512]);
+        assert_eq!(
+            read(&wrong, LABEL, room_for(&record)),
+            Err(Refusal::Fields),
+            "byte {place}"
+        );
+        assert_eq!(label::check(&wrong[..512]), Err(Refusal::Fields));
+        let mut wrong = record.clone();
+        wrong[BLOCK_BYTES + place] = byte;
+        seal(&mut wrong[BLOCK_BYTES..2 * BLOCK_BYTES]);
+        let kept = read(&wrong, LABEL, room_for(&record)).expect("block 0 is right");
+        assert_eq!((kept.blocks, kept.ended), (1, Some(Refusal::Fields)));
+    }
+    // an unused bit
+    let mut block = [0; 512];
+    assert_eq!(label::write(3, 2, 3, LABEL, &[0xC0, 0x08, 0x00], 17, &mut block), Ok(1));
+    block[18] |= 1;
+    seal(&mut block);
+    assert_eq!(label::check(&block), Err(Refusal::Fields));
+}
+
+#[test]
+fn turns() {
+    let record = long_record();
+    // another label, and the first block lost
+    assert_eq!(read(&record, b"00000418", room_for(&record)), Err(Refusal::Turn));
+    assert_eq!(
+        read(&record[BLOCK_BYTES..], LABEL, room_for(&record)),
+        Err(Refusal::Turn)
+    );
+    // the second block lost, doubled, or of another label
+    let lost = [&record[..512], &record[1024..]].concat();
+    let doubled = [&record[..512], &record[..512]].concat();
+    let mut other = record.clone();
+    other[512 + 11] = b'8';
+    seal(&mut other[512..1024]);
+    for blocks in [lost, doubled, other] {
+        let kept = read(&blocks, LABEL, room_for(&record)).expect("block 0 is the first");
+        assert_eq!((kept.blocks, kept.ended), (1, Some(Refusal::Turn)));
+    }
+}
+
+#[test]
+fn slices_of_length_0() {
+    assert_eq!(label::forward(3, 2, &[], &mut []), Err(Refusal::Length));
+    assert_eq!(label::code(3, 2, &[], 0, &mut []), Err(Refusal::Length));
+    assert_eq!(label::decode(3, 2, 0, &mut [], &[], 0), Err(Refusal::Length));
+    assert_eq!(label::inverse(3, 2, &[], &mut [], &mut []), Err(Refusal::Length));
+    assert_eq!(label::write(3, 2, 0, &[], &[], 0, &mut []), Err(Refusal::Room));
+    assert_eq!(label::read(&[], &[], &mut []), Err(Refusal::Room));
+    assert_eq!(label::check(&[]), Err(Refusal::Room));
+    // and where they are enough
+    assert_eq!(
+        label::code(3, 2, &[1; 64], usize::MAX, &mut []),
+        Ok(label::Coded { bits: 0, n: 1 })
+    );
+    let mut numbers = [ODD; 64];
+    let settled = label::decode(3, 2, 18, &mut numbers, &[], 0);
+    assert_eq!(
+        settled,
+        Ok(label::Settled {
+            unfinished: 18,
+            read: 0
+        })
+    );
+    assert_eq!(numbers, [0; 64]);
+    assert_eq!(label::write(3, 2, 0, LABEL, &[], 0, &mut [0; 512]), Ok(1));
+}
+
+#[test]
+fn the_lowest_that_applies() {
+    assert_eq!(forward(2, 9, 1, 1), Err(Refusal::Side));
+    assert_eq!(forward(3, 9, 1, 1), Err(Refusal::Levels));
+    assert_eq!(code(3, 2, &[i32::MAX; 65], 1), Err(Refusal::Length));
+    assert_eq!(decode(3, 2, 19, 64, 0, 1), Err(Refusal::Planes));
+    assert_eq!(write(3, 2, 19, b"417", 0, 1, 0), Err(Refusal::Planes));
+    assert_eq!(write(3, 2, 18, b"417", 0, 1, 0), Err(Refusal::Room));
+    assert_eq!(read(&[0; 512], b"417", 491), Err(Refusal::Room));
+    assert_eq!(read(&[0; 512], b"417", 492), Err(Refusal::Label));
+    assert_eq!(read(&[1; 512], LABEL, 492), Err(Refusal::Damaged));
+}
+
+#[test]
+fn plain_answers() {
+    let refused = raw::Kept {
+        refusal: 10,
+        ..raw::Kept::default()
+    };
+    let record = long_record();
+    let mut room = vec![0; record.len()];
+    assert_eq!(raw::read(&record, b"00000418", &mut room), refused);
+    assert_eq!(refused.result(), Err(Refusal::Turn));
+    assert_eq!(raw::forward(9, 1, &[], &mut []), raw::Planes { refusal: 1, n: 0 });
+    assert_eq!(
+        raw::code(3, 3, &[], 0, &mut []),
+        raw::Written {
+            refusal: 2,
+            bits: 0,
+            n: 0
+        }
+    );
+    let refused = raw::Settled {
+        refusal: 5,
+        unfinished: 0,
+        read: 0,
+    };
+    assert_eq!(raw::decode(3, 2, 19, &mut [0; 64], &[], 0), refused);
+    assert_eq!(raw::inverse(3, 2, &[i32::MIN; 64], &mut [0; 64], &mut [0; 64]), 4);
+    assert_eq!(
+        raw::write(3, 2, 0, b"417", &[], 0, &mut [0; 512]),
+        raw::Blocks { refusal: 7, blocks: 0 }
+    );
+    assert_eq!(
+        (raw::check(&[1; 512]), raw::check(&[0; 512]), raw::check(&record[..512])),
+        (8, 9, 0)
+    );
+
+    let kept = raw::read(&record, LABEL, &mut room);
+    assert_eq!((kept.refusal, kept.k, kept.levels, kept.ended), (0, 5, 3, 0));
+    assert_eq!(kept.result(), label::read(&record, LABEL, &mut room));
+}
+
+#[test]
+fn names_and_numbers() {
+    assert_eq!(Refusal::ALL.map(Refusal::number), [1, 2, 3, 4, 5, 6, 7, 8, 9, 10]);
+    for number in [0, 11, 12, u32::MAX] {
+        assert_eq!(Refusal::from_number(number), None);
+    }
+    let mut said = HashSet::new();
+    for refusal in Refusal::ALL {
+        assert_eq!(Refusal::from_number(refusal.number()), Some(refusal));
+        let error: &dyn std::error::Error = &refusal;
+        assert!((10..70).contains(&error.to_string().len()));
+        assert!(said.insert(error.to_string()), "two refusals say the same");
+    }
+}
+
+#[test]
+#[should_panic(expected = "not of this package's version")]
+fn a_refusal_that_there_is_not() {
+    let _ = raw::Planes { refusal: 11, n: 0 }.result();
+}

@@ -1,0 +1,81 @@
+//! Limits and room, against the formulas in numbers that can't pass their width, and known when a program is compiled.
+
+use label::{LEAST_K, MOST_K, MOST_LEVELS, MOST_PLANES};
+
+const ANY: [u32; 12] = [0, 1, 2, 7, 8, 9, 18, 19, 31, 32, 64, u32::MAX];
+
+#[test]
+fn limits() {
+    assert_eq!((LEAST_K, MOST_K, MOST_LEVELS, MOST_PLANES), (3, 8, 5, 18));
+    assert_eq!(label::NUMBER_LIMIT, (1 << 18) - 1);
+    assert_eq!(
+        (label::BLOCK_BYTES, label::PAYLOAD_BYTES, label::PAYLOAD_BITS),
+        (512, 492, 3936)
+    );
+    assert_eq!(label::LABEL_BYTES, b"00000417".len());
+}
+
+#[test]
+fn known_when_compiled() {
+    const BITS: usize = label::most_bits(6, MOST_PLANES);
+    const LENT: [u8; label::most_bytes(6, MOST_PLANES)] = [0; label::most_bytes(6, MOST_PLANES)];
+    const BLOCKS: usize = label::most_blocks(6, MOST_PLANES);
+    const LIMIT: u8 = label::grey_limit(2, 2);
+    assert_eq!((BITS, LENT.len(), BLOCKS, LIMIT), (102_394, 12_800, 27, 45));
+    assert_eq!(label::most_blocks(8, MOST_PLANES), 417);
+}
+
+#[test]
+fn room_by_the_formulas() {
+    for k in LEAST_K..=MOST_K {
+        let side = 1_u128 << k;
+        assert_eq!(label::side(k) as u128, side);
+        assert_eq!(label::places(k) as u128, side * side);
+        assert_eq!(label::most_levels(k), 5.min(k - 1));
+        for n in 0..=MOST_PLANES {
+            let bits = u128::from(n) * (4 * side * side - 1) / 3 + side * side;
+            assert_eq!(label::most_bits(k, n) as u128, bits);
+            assert_eq!(label::most_bytes(k, n) as u128, bits.div_ceil(8));
+            assert_eq!(label::most_blocks(k, n) as u128, 1.max(bits.div_ceil(3936)));
+        }
+    }
+}
+
+#[test]
+fn nothing_out_of_range() {
+    for k in ANY.into_iter().chain(0..12) {
+        let in_range = (LEAST_K..=MOST_K).contains(&k);
+        assert_eq!(label::side(k) != 0, in_range);
+        assert_eq!(label::places(k) != 0, in_range);
+        assert_eq!(label::most_levels(k) != 0, in_range);
+        for n in ANY {
+            assert_eq!(label::most_bits(k, n) != 0, in_range && n <= MOST_PLANES);
+            assert_eq!(label::most_bytes(k, n) != 0, in_range && n <= MOST_PLANES);
+            assert_eq!(label::most_blocks(k, n) != 0, in_range && n <= MOST_PLANES);
+        }
+    }
+}
+
+#[test]
+fn blocks_of_any_bits() {
+    assert_eq!(
+        [0, 1, 3935, 3936, 3937, 7872, 7873].map(label::blocks),
+        [1, 1, 1, 1, 2, 2, 3]
+    );
+    assert_eq!(label::blocks(usize::MAX), usize::MAX / 3936 + 1);
+}
+
+#[test]
+fn grey_limits_stop_at_255() {
+    for levels in (0..40).chain(ANY).chain([u32::MAX / 7, u32::MAX / 7 + 1]) {
+        for unfinished in ANY.into_iter().chain(0..40) {
+            let planes = (1_u128 << unfinished.min(64)) - 1;
+            let limit = 255.min((7 * u128::from(levels) + 1) * planes);
+            assert_eq!(
+                u128::from(label::grey_limit(levels, unfinished)),
+                limit,
+                "{levels} {unfinished}"
+            );
+        }
+    }
+}

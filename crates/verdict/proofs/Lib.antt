@@ -1,0 +1,2 @@
+-- Laws of what decode says.
+pub mod Laws

@@ -1,0 +1,65 @@
+use Rattle.verdict.specs.Verdict.{promiseOf}
+use Rattle.verdict.proofs.Laws.{promise-inside}
+use Rattle.words.proofs.Laws.{and-inside}
+use borrow.Author.Needs.{needs}
+use Rattle.verdict.proofs.promise.Statement.{statement}
+use Rattle.verdict.proofs.promise.Tie as tie
+
+grey-limit-requires : tie.Need-grey-limit-requires
+grey-limit-requires c κs = search needs
+
+put-requires : tie.Need-put-requires
+put-requires c κs = search needs
+
+slice-aggregate-put : tie.Need-slice-aggregate-put
+slice-aggregate-put c = search needs
+
+put-requires-2 : tie.Need-put-requires-2
+put-requires-2 c κs = search needs
+
+put-word-requires : tie.Need-put-word-requires
+put-word-requires c κs = search needs
+
+slice-aggregate-put-figure : tie.Need-slice-aggregate-put-figure
+slice-aggregate-put-figure c = search needs
+
+put-figure-requires : tie.Need-put-figure-requires
+put-figure-requires c κs = search needs
+
+slice-aggregate-put-figure-2 : tie.Need-slice-aggregate-put-figure-2
+slice-aggregate-put-figure-2 c = search needs
+
+cast-put-figure : tie.Need-cast-put-figure
+cast-put-figure c = search needs
+
+put-figure-requires-2 : tie.Need-put-figure-requires-2
+put-figure-requires-2 c κs = search needs
+
+put-most-requires : tie.Need-put-most-requires
+put-most-requires c κs = search needs
+
+same-length : tie.Need-same-length
+same-length c = search needs
+
+returns : tie.Need-returns
+unfolding promiseOf
+returns c =
+    and-inside _ _ _ (promise-inside _ _ _ _ _) (rw (← c .before .before .before .before .before .before .before .before .before .before .before .before .before .before .before .before .before .before .before .before .before .before .before .before .before .before .before .grey-limit .ensures, c .before .before .before .before .before .before .before .before .before .before .before .before .before .before .before .before .before .before .before .before .before .before .before .before .before .put .ensures, c .before .before .before .before .before .before .before .before .before .before .before .before .before .before .before .before .before .before .before .before .put2 .ensures, c .before .before .before .before .before .before .before .before .before .before .before .before .before .before .before .before .put-word .ensures, c .before .before .before .before .before .before .before .before .before .before .before .put-figure .ensures, c .before .before .before .before .before .before .put-figure2 .ensures) (c .before .before .put-most .ensures))
+
+pub promise-spec : {M : Type 1} → statement M
+promise-spec =
+    tie.close
+    (tie.spec
+    grey-limit-requires
+    put-requires
+    slice-aggregate-put
+    put-requires-2
+    put-word-requires
+    slice-aggregate-put-figure
+    put-figure-requires
+    slice-aggregate-put-figure-2
+    cast-put-figure
+    put-figure-requires-2
+    put-most-requires
+    same-length
+    returns)

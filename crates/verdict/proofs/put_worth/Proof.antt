@@ -1,0 +1,88 @@
+use Rattle.verdict.specs.Verdict.{worth}
+use borrow.Author.Tests.{eq-eqb, ne-eqb}
+use borrow.Author.Needs.{needs}
+use Rattle.verdict.proofs.put_worth.Statement.{statement}
+use Rattle.verdict.proofs.put_worth.Tie as tie
+
+slice-aggregate-put : tie.Need-slice-aggregate-put
+slice-aggregate-put c = search needs
+
+put-requires : tie.Need-put-requires
+put-requires c κs = search needs
+
+put-one-shot-requires : tie.Need-put-one-shot-requires
+put-one-shot-requires c κs = search needs
+
+same-length : tie.Need-same-length
+same-length c = search needs
+
+returns : tie.Need-returns
+unfolding worth
+returns c =
+    rw (eq-eqb _ 0 (c .before .before .before .before .before .before .before .before .before .if1 .taken), c .before .before .before .before .before .before .put .ensures) (c .before .before .put-one-shot .ensures)
+
+grey-limit-requires : tie.Need-grey-limit-requires
+grey-limit-requires c κs = search needs
+
+slice-aggregate-put-2 : tie.Need-slice-aggregate-put-2
+slice-aggregate-put-2 c = search needs
+
+put-requires-2 : tie.Need-put-requires-2
+put-requires-2 c κs = search needs
+
+same-length-2 : tie.Need-same-length-2
+same-length-2 c = search needs
+
+returns-2 : tie.Need-returns-2
+unfolding worth
+returns-2 c =
+    rw (ne-eqb _ 0 (c .before .before .before .before .before .before .before .if1 .left), ← c .before .before .before .before .before .before .grey-limit .ensures, eq-eqb _ 255 (c .before .before .before .before .before .if2 .taken)) (c .before .before .put2 .ensures)
+
+slice-aggregate-put-figure : tie.Need-slice-aggregate-put-figure
+slice-aggregate-put-figure c = search needs
+
+cast-put-figure : tie.Need-cast-put-figure
+cast-put-figure c = search needs
+
+put-figure-requires : tie.Need-put-figure-requires
+put-figure-requires c κs = search needs
+
+slice-aggregate-put-3 : tie.Need-slice-aggregate-put-3
+slice-aggregate-put-3 c = search needs
+
+put-requires-3 : tie.Need-put-requires-3
+put-requires-3 c κs = search needs
+
+put-one-shot-requires-2 : tie.Need-put-one-shot-requires-2
+put-one-shot-requires-2 c κs = search needs
+
+same-length-3 : tie.Need-same-length-3
+same-length-3 c = search needs
+
+returns-3 : tie.Need-returns-3
+unfolding worth
+returns-3 c =
+    rw (ne-eqb _ 0 (c .before .before .before .before .before .before .before .before .before .before .before .before .before .before .before .before .if1 .left), ← c .before .before .before .before .before .before .before .before .before .before .before .before .before .before .before .grey-limit .ensures, ne-eqb _ 255 (c .before .before .before .before .before .before .before .before .before .before .before .before .before .before .if2 .left), c .before .before .before .before .before .before .before .before .before .before .before .put-figure .ensures, c .before .before .before .before .before .before .put3 .ensures) (c .before .before .put-one-shot2 .ensures)
+
+pub put-worth-spec : {M : Type 1} → statement M
+put-worth-spec =
+    tie.close
+    (tie.spec
+    slice-aggregate-put
+    put-requires
+    put-one-shot-requires
+    same-length
+    returns
+    grey-limit-requires
+    slice-aggregate-put-2
+    put-requires-2
+    same-length-2
+    returns-2
+    slice-aggregate-put-figure
+    cast-put-figure
+    put-figure-requires
+    slice-aggregate-put-3
+    put-requires-3
+    put-one-shot-requires-2
+    same-length-3
+    returns-3)
