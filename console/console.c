@@ -140,7 +140,7 @@ static void say_ended(size_t i, uint32_t number, const char *label)
         printf("it is %s\n", meaning(number));
         return;
     }
-    printf("it is not the %s block of this record (10)\n", i ? "next" : "first");
+    printf("it is not the %s (10)\n", i ? "next block of this record" : "first block of the record asked for");
     say_turn(i, label);
 }
 
@@ -175,7 +175,7 @@ static int judge_record(const char *label)
     int all;
 
     if (!payload) {
-        fprintf(stderr, "label-check: not enough memory\n");
+        fprintf(stderr, "REFUSED: not enough memory\n");
         return NOT_WELL;
     }
     kept = label_read(record, length, (const uint8_t *)label, strlen(label), payload, room);
@@ -219,8 +219,8 @@ static int judge_record(const char *label)
     }
     say_over();
     if (kept.blocks)
-        printf("  %u of %u plane%s finished, %u level%s, %zu bit%s\n", (unsigned)(kept.n - p), (unsigned)kept.n, s(kept.n),
-               (unsigned)kept.levels, s(kept.levels), kept.bits, s(kept.bits));
+        printf("  planes finished: %u of %u, levels: %u, bits: %zu\n", (unsigned)(kept.n - p), (unsigned)kept.n,
+               (unsigned)kept.levels, kept.bits);
     if (kept.blocks > 1)
         printf("not judged: whether the blocks are of one shot; edition 1 can't tell\n");
     return all && !over ? WELL : NOT_WELL;
@@ -242,7 +242,7 @@ static int read_input(void)
             moved = (uint8_t *)realloc(bytes, larger);
             if (!moved) {
                 free(bytes);
-                fprintf(stderr, "label-check: not enough memory\n");
+                fprintf(stderr, "REFUSED: not enough memory\n");
                 return 0;
             }
             bytes = moved;
@@ -253,11 +253,11 @@ static int read_input(void)
     } while (got && length <= MOST_INPUT);
     record = bytes;
     if (ferror(stdin)) {
-        fprintf(stderr, "label-check: standard input could not be read\n");
+        fprintf(stderr, "REFUSED: standard input could not be read\n");
         return 0;
     }
     if (length > MOST_INPUT) {
-        fprintf(stderr, "label-check: more came than a record has, %d blocks of 512 bytes\n", MOST_BLOCKS);
+        fprintf(stderr, "REFUSED: more came than a record has, %d blocks of 512 bytes\n", MOST_BLOCKS);
         return 0;
     }
     whole = length / LABEL_BLOCK_BYTES;
@@ -271,7 +271,7 @@ static int done(int status)
     int failed = ferror(stdout);
 
     if (fclose(stdout) || failed) {
-        fprintf(stderr, "label-check: standard output could not be written\n");
+        fprintf(stderr, "REFUSED: standard output could not be written\n");
         return NOT_WELL;
     }
     return status;

@@ -32,12 +32,12 @@ def blocks_kept(record, asked):
               or not label.isdigit() or count > 3936 or any(payload[count:])):
             bad = ['no block of edition 1, a field is wrong (9)']
         else:
-            turn = 'next' if kept > 0 else 'first'
             if number != kept: bad += ['    its number is %d and not %d' % (number, kept)]
             if label != asked:
                 bad += ['    its label is %s and not %s' % (label.decode(), asked.decode())]
             if block[:4] != record[:4]: bad += ["    its side, levels or planes are not block 0's"]
-            if bad: bad = ['not the %s block of this record (10)' % turn] + bad
+            turn = 'next block of this record' if kept else 'first block of the record asked for'
+            if bad: bad = ['not the %s (10)' % turn] + bad
             else: bits, kept = bits + payload[:count], kept + 1
     return bits, kept, bad
 
@@ -83,9 +83,8 @@ def greys(x, k, L):
 
 def opened(label, record):
     """What is said of a record, and its picture: none if it is refused."""
-    size, name = len(record), label.decode()
-    if size < 512:
-        return ['REFUSED: no whole block came: %d bytes, and a block has 512 (6)' % size], b''
+    name, short = label.decode(), 'REFUSED: no whole block came: %d bytes, and a block has 512 (6)'
+    if len(record) < 512: return [short % len(record)], b''
     if len(label) != 8 or not label.isdigit():
         return ['REFUSED: the label given is not eight digits; leading zeros count (7)'], b''
     bits, kept, bad = blocks_kept(record, label)
@@ -107,9 +106,10 @@ def opened(label, record):
 
 if __name__ == '__main__':
     given = sys.argv[1:]
-    if len(given) != 3 or given[0].startswith('-'):
-        print(__doc__.strip(), file=sys.stdout if given == ['--help'] else sys.stderr)
-        sys.exit(0 if given == ['--help'] else 2)
+    if given in (['--help'], ['--version']):
+        sys.exit(print(__doc__.strip() if given == ['--help'] else 'reader.py 0.2.0, edition 1'))
+    if len(given) != 3 or given[0][:1] == '-':
+        sys.exit(print(__doc__.strip(), file=sys.stderr) or 2)
     try:
         with open(given[1], 'rb') as file: record = file.read()
         said, picture = opened(given[0].encode('ascii', 'replace'), record)

@@ -21,7 +21,7 @@ fn write_help(fd: i32) {
     );
     pipes::write_all(
         fd,
-        b"  LEVELS  how often the picture is halved: 1 to 5, and to 2, 3 or 4 at side 8,\n          16 or 32. More make the record smaller, and a cut's promise wider\n",
+        b"  LEVELS  how often the picture is halved: 1 to 5, and to 2, 3 or 4 at side 8,\n          16 or 32. Beyond 2 they save little, and widen a cut's promise\n",
     );
     pipes::write_all(
         fd,
