@@ -126,6 +126,14 @@ fn read_and_decode(label: &[u8], line: &mut [u8]) -> usize {
     decode(&mut room, filled.count, label, line)
 }
 
+// No label begins with a dash.
+fn is_option(word: &[u8]) -> bool {
+    if word.len() == 0 {
+        return false;
+    }
+    word[0] == b'-'
+}
+
 fn run(line: &mut [u8]) -> usize {
     let mut label = [0u8; 16];
     let count = os::arg(1, &mut label);
@@ -137,7 +145,7 @@ fn run(line: &mut [u8]) -> usize {
         pipes::write_all(STDOUT_FILENO, b"decode 0.2.0\n");
         return 0;
     }
-    if os::arg_count() != 2 {
+    if os::arg_count() != 2 || is_option(&label[..count]) {
         write_help(STDERR_FILENO);
         return 0;
     }

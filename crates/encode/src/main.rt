@@ -169,6 +169,14 @@ fn read_arguments(arguments: usize, line: &mut [u8]) -> usize {
     read_and_encode(&mut room, levels.value, limit.value as usize, line)
 }
 
+// No label begins with a dash.
+fn is_option(word: &[u8]) -> bool {
+    if word.len() == 0 {
+        return false;
+    }
+    word[0] == b'-'
+}
+
 fn run(line: &mut [u8]) -> usize {
     let mut word = [0u8; 16];
     let count = os::arg(1, &mut word);
@@ -181,7 +189,7 @@ fn run(line: &mut [u8]) -> usize {
         return 0;
     }
     let arguments = os::arg_count();
-    if arguments < 3 || 4 < arguments {
+    if arguments < 3 || 4 < arguments || is_option(&word[..count]) {
         write_help(STDERR_FILENO);
         return 0;
     }

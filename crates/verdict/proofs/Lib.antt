@@ -1,2 +1,4 @@
--- Laws of what decode says.
+-- Laws of what decode says, and of the promise in the picture's header.
 pub mod Laws
+pub mod Comment
+pub mod Turn

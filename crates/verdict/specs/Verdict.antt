@@ -1,7 +1,7 @@
 -- What decode says of a record: the verdict first, then what the picture is worth, its planes and bits, and what ended the
 -- run; and the promise that travels with the picture.
 use mathlib.Core.Bool.{Bool, not, _&&_}
-use mathlib.Core.List.{List}
+use mathlib.Core.List.{List, _++_}
 use Prim.Native.Nat.{ℕ, _*_, _-_, _^_}
 use lib.Dec.{leb, eqb}
 use lib.ListN.{take}
@@ -113,3 +113,8 @@ promiseOf label L p blocks line =
     line puts label puts ascii " " puts word p puts ascii ", p = " puts figure p
     puts ascii ", no grey off by more than " puts figure (greyLimit L p)
     puts of255 blocks
+
+-- the same as one text
+unfoldable pub promiseText : List ℕ → ℕ → ℕ → ℕ → List ℕ
+promiseText label L p blocks =
+    label ++ (ascii " " ++ (word p ++ (ascii ", p = " ++ (figure p ++ (ascii ", no grey off by more than " ++ (figure (greyLimit L p) ++ of255 blocks))))))

@@ -1,0 +1,120 @@
+"""Opens a record of a cartridge label, whole or cut, and says what it is worth.
+
+usage: python3 reader.py LABEL RECORD PICTURE
+
+LABEL is eight digits, leading zeros counted, RECORD the file of the record and
+PICTURE a new file for the picture (binary PGM). The first word said is WHOLE or
+CUT (status 0) or REFUSED (status 1, no picture); wrong usage has status 2.
+
+A record is a grey picture of side 8 to 256 in a run of 512-byte blocks. Bits of
+its wavelet numbers stand there, the most significant first. So the blocks that
+are left, from the front, show all of it, less exactly. FORMAT.md has the rules.
+
+The promise: with p of n planes unfinished and L levels no grey is off by more
+than (7L + 1)(2^p - 1), and with p = 0 it is the very picture; if all blocks are
+of one shot. Blocks of two shots under one label with the same k, L and n splice
+unnoticed in edition 1, read here; edition 2's mount number (to come) closes it.
+"""
+import sys
+
+def blocks_kept(record, asked):
+    """Which blocks a reader keeps: their bits, how many they are, what is wrong with the next."""
+    bits, kept, bad = [], 0, []
+    while not bad and len(bits) == 3936 * kept and len(record) >= 512 * (kept + 1):
+        block = record[512 * kept:512 * (kept + 1)]
+        edition, k, L, n, label = block[0], block[1], block[2], block[3], block[4:12]
+        number, count, A, B = [256 * block[i] + block[i + 1] for i in (12, 14, 508, 510)]
+        payload = [block[i // 8] >> (7 - i % 8) & 1 for i in range(8 * 16, 8 * 508)]
+        weighed = [(i + 1) * block[i] for i in range(508)]
+        if A != sum(block[:508]) % 65521 or B != sum(weighed) % 65521:
+            bad = ['damaged, a check is wrong (8)']
+        elif (edition != 1 or not 3 <= k <= 8 or not 1 <= L <= min(5, k - 1) or n > 18
+              or not label.isdigit() or count > 3936 or any(payload[count:])):
+            bad = ['no block of edition 1, a field is wrong (9)']
+        else:
+            turn = 'next' if kept > 0 else 'first'
+            if number != kept: bad += ['    its number is %d and not %d' % (number, kept)]
+            if label != asked:
+                bad += ['    its label is %s and not %s' % (label.decode(), asked.decode())]
+            if block[:4] != record[:4]: bad += ["    its side, levels or planes are not block 0's"]
+            if bad: bad = ['not the %s block of this record (10)' % turn] + bad
+            else: bits, kept = bits + payload[:count], kept + 1
+    return bits, kept, bad
+
+def wavelet_numbers(bits, k, L, n):
+    """From bits to wavelet numbers, in Z order, and p, the number of unfinished planes."""
+    S, p, bits = 2 ** k, n, iter(bits)
+    magnitude, sign = [0] * S ** 2, [1] * S ** 2
+    def is_open(start, end):
+        return max(magnitude[start:end]) >= 2 * T or next(bits) == 1
+    def read_set(start, length):
+        if length == 1: read_number(start)
+        elif is_open(start, start + length):
+            for i in range(4): read_set(start + i * length // 4, length // 4)
+    def read_number(place):
+        if magnitude[place] >= 2 * T: magnitude[place] += next(bits) * T
+        elif next(bits) == 1: sign[place], magnitude[place] = 1 - 2 * next(bits), T
+    try:
+        while p > 0:
+            T, q = 2 ** (p - 1), (S // 2 ** L) ** 2
+            read_set(0, q)
+            while q < S ** 2 and is_open(q, S ** 2):
+                for start in (q, 2 * q, 3 * q): read_set(start, q)
+                q = 4 * q
+            p = p - 1
+    except StopIteration: pass  # the bits ran out: the numbers keep what they have
+    return [sign[place] * magnitude[place] for place in range(S ** 2)], p
+
+def undo_line(x, at):
+    """Where x has h lows and then h highs, at these places, it gets the line they were made of."""
+    h, even, odd = len(at) // 2, at[0::2], at[1::2]
+    low, high = [x[place] for place in at[:h]], [x[place] for place in at[h:]]
+    for i in range(h): x[even[i]] = low[i] - (high[max(i - 1, 0)] + high[i] + 2) // 4
+    for i in range(h): x[odd[i]] = high[i] + (x[even[i]] + x[even[min(i + 1, h - 1)]]) // 2
+
+def greys(x, k, L):
+    """From wavelet numbers to greys. z has a row's or column's bits two apart, as a Z place has."""
+    z = [sum((i >> j & 1) << 2 * j for j in range(k)) for i in range(2 ** k)]
+    for level in range(L, 0, -1):
+        square = z[:2 ** k // 2 ** (level - 1)]
+        for column in square: undo_line(x, [2 * row + column for row in square])
+        for row in square: undo_line(x, [2 * row + column for column in square])
+    return bytes([max(0, min(255, x[2 * row + column] + 128)) for row in z for column in z])
+
+def opened(label, record):
+    """What is said of a record, and its picture: none if it is refused."""
+    size, name = len(record), label.decode()
+    if size < 512:
+        return ['REFUSED: no whole block came: %d bytes, and a block has 512 (6)' % size], b''
+    if len(label) != 8 or not label.isdigit():
+        return ['REFUSED: the label given is not eight digits; leading zeros count (7)'], b''
+    bits, kept, bad = blocks_kept(record, label)
+    if kept == 0: return ['REFUSED %s: block 0 is %s' % (name, bad[0])] + bad[1:], b''
+    k, L, n = record[1], record[2], record[3]
+    numbers, p = wavelet_numbers(bits, k, L, n)
+    limit, plural = min(255, (7 * L + 1) * (2 ** p - 1)), 's' if kept > 1 else ''
+    verdict, worth = 'CUT', 'no grey is off by more than %d of 255' % limit
+    if limit == 255: worth = 'any grey may be wrong: too little is left to promise more'
+    if p == 0: verdict, worth = 'WHOLE', 'every grey is right: the very picture'
+    more = 'more' if p > 0 and len(bits) == 3936 * kept else 'no more'
+    said = ['%s %s, side %d: %d block%s, %s expected' % (verdict, name, 2 ** k, kept, plural, more),
+            '  ' + worth + (', if its blocks are of one shot' if kept > 1 and limit < 255 else ''),
+            '  planes finished: %d of %d, levels: %d, bits: %d' % (n - p, n, L, len(bits))]
+    if bad: said += ['  block %d ended the run: it is %s' % (kept, bad[0])] + bad[1:]
+    header = 'P5\n# %s %s, p = %d, no grey off by more than %d of 255%s\n%d %d\n255\n' % (
+        name, verdict, p, limit, ', if of one shot' if kept > 1 else '', 2 ** k, 2 ** k)
+    return said, header.encode() + greys(numbers, k, L)
+
+if __name__ == '__main__':
+    given = sys.argv[1:]
+    if len(given) != 3 or given[0].startswith('-'):
+        print(__doc__.strip(), file=sys.stdout if given == ['--help'] else sys.stderr)
+        sys.exit(0 if given == ['--help'] else 2)
+    try:
+        with open(given[1], 'rb') as file: record = file.read()
+        said, picture = opened(given[0].encode('ascii', 'replace'), record)
+        if picture:
+            with open(given[2], 'xb') as file: file.write(picture)
+    except OSError as error: said, picture = ['REFUSED: ' + str(error)], b''
+    print('\n'.join(said))
+    sys.exit(0 if picture else 1)

@@ -1,0 +1,61 @@
+"""PGM pictures for tools/view and tools/poster: read with any header that netpbm's tools read, or refused by name."""
+import sys
+
+
+class Refused(Exception):
+    """A file that is no picture that can be shown, and why."""
+
+
+def header(data):
+    """The numbers of a binary PGM's header, its first comment, and where the greys start."""
+    numbers, digits, comment, at = [], '', '', 2
+    if data[:2] != b'P5':
+        raise Refused('it is no binary PGM (P5)')
+    while len(numbers) < 3:
+        letter = data[at:at + 1].decode('latin-1')
+        at += 1
+        if letter == '#':  # a comment is a white space as long as its line
+            end = min([i for i in (data.find(b'\n', at), data.find(b'\r', at)) if i >= 0] + [len(data)])
+            comment = comment or data[at:end].decode('ascii', 'replace').strip()
+            at, letter = end + 1, '\n'
+        if letter in ('0', '1', '2', '3', '4', '5', '6', '7', '8', '9') and at > 3:
+            digits += letter
+        elif letter and letter in ' \t\n\v\f\r':
+            numbers += [int(digits)] if digits else []
+            digits = ''
+        else:
+            raise Refused('its header ends early' if at > len(data) else 'its header has a %r' % letter)
+    return numbers, comment, at
+
+
+def read(name):
+    """The rows of greys of a picture, and its comment."""
+    try:
+        with open(name, 'rb') as file:
+            data = file.read()
+    except OSError as error:
+        raise Refused(error.strerror or 'it could not be read')
+    (width, height, most), comment, at = header(data)
+    if width == 0 or height == 0:
+        raise Refused('it has no greys: %d by %d' % (width, height))
+    if most != 255:
+        raise Refused('its greys run to %d, and not to 255' % most)
+    if len(data) - at < width * height:
+        raise Refused('greys are missing: %d of %d are there' % (len(data) - at, width * height))
+    return [data[at + row * width:at + (row + 1) * width] for row in range(height)], comment
+
+
+def read_all(tool, names):
+    """Pictures of one size, with their comments; else says which file is bad, and ends with 1."""
+    pictures = []
+    for name in names:
+        try:
+            rows, comment = read(name)
+            if pictures and (len(rows), len(rows[0])) != (len(pictures[0][0]), len(pictures[0][0][0])):
+                first = pictures[0][0]
+                raise Refused('it is %d by %d, and the first is %d by %d' % (len(rows[0]), len(rows), len(first[0]), len(first)))
+        except Refused as refused:
+            print('%s: %s: %s' % (tool, name, refused), file=sys.stderr)
+            sys.exit(1)
+        pictures.append((rows, comment))
+    return pictures
