@@ -16,6 +16,7 @@ pub mod refusal;
 pub mod samples;
 pub mod show;
 pub mod sizes;
+pub mod slip;
 pub mod transcript;
 pub mod transform;
 pub mod walk;

@@ -1,15 +1,18 @@
 //! The second program as a command: it makes cases, answers them, shows them,
-//! and compares two files of answers.
+//! and compares two files of answers. For the demo it also looks at a record
+//! as a viewer with the old slip does.
 
 #![forbid(unsafe_code)]
 
 use second::cases::{self, Options};
 use second::compare::{self, Outcome};
+use second::refusal::Refusal;
 use second::show;
 use second::sizes::{LARGEST_K, SMALLEST_K};
+use second::slip;
 use second::transcript;
 use std::error::Error;
-use std::fs::File;
+use std::fs::{self, File};
 use std::io::{self, BufReader, BufWriter, Write};
 use std::process::ExitCode;
 use std::str::FromStr;
@@ -19,8 +22,11 @@ const USAGE: &str = "usage:
   second answer
   second show [--case I]
   second compare FILE_A FILE_B --requests FILE
+  second slip LAST_RECORD RECORD
 cases writes requests to standard output; answer and show read them from
-standard input. Cases are counted from 0.";
+standard input. Cases are counted from 0. slip is for the demo, and wrong on
+purpose: it writes the PGM that a viewer shows of RECORD when it leaves the
+numbers of LAST_RECORD in place wherever RECORD has settled nothing.";
 
 type Failure = Box<dyn Error>;
 
@@ -143,6 +149,22 @@ fn compare(words: &Words) -> Result<ExitCode, Failure> {
     }
 }
 
+/// For the demo: what a viewer with the old slip shows.
+fn slip(words: &Words) -> Result<ExitCode, Failure> {
+    let held = |name: &str| -> Result<slip::Held, Failure> {
+        let record = fs::read(name).map_err(|error| format!("{}: {}", name, error))?;
+        let refused = |refusal: Refusal| format!("{}: refused by {}", name, refusal.number());
+        Ok(slip::seen(&record).map_err(refused)?)
+    };
+    let [last, next] = words.rest()?;
+    let (last, next) = (held(last)?, held(next)?);
+    let shown = slip::look(&last, &next).ok_or("the records differ in side or levels")?;
+    let pgm = shown.pgm();
+    let pgm = pgm.map_err(|refusal| format!("refused by {}", refusal.number()))?;
+    io::stdout().write_all(&pgm)?;
+    Ok(ExitCode::SUCCESS)
+}
+
 fn run() -> Result<ExitCode, Failure> {
     let mut words = std::env::args().skip(1);
     match words.next().as_deref() {
@@ -153,6 +175,11 @@ fn run() -> Result<ExitCode, Failure> {
         Some("answer") => answer(&Words::new(&[], words)?),
         Some("show") => show(&Words::new(&["--case"], words)?),
         Some("compare") => compare(&Words::new(&["--requests"], words)?),
+        Some("slip") => slip(&Words::new(&[], words)?),
+        Some("--help") => {
+            println!("{}", USAGE);
+            Ok(ExitCode::SUCCESS)
+        }
         _ => Err(USAGE.into()),
     }
 }

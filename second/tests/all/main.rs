@@ -4,6 +4,7 @@ mod by_hand;
 mod demands;
 mod formulations;
 mod naive;
+mod old_slip;
 mod program;
 mod records;
 mod requests;

@@ -1,4 +1,4 @@
-//! The program as a command: its four subcommands and its exit status.
+//! The program as a command: its subcommands and its exit status.
 
 use std::fs;
 use std::io::Write;
@@ -85,9 +85,45 @@ fn a_case_can_be_had_again_by_its_number() {
     assert_eq!(together, apart.concat());
 }
 
+/// P9's block: a flat picture, after which nothing is left in place.
+#[test]
+fn slip_writes_a_picture() {
+    let mut block = vec![1, 3, 2, 0];
+    block.extend(b"00000417");
+    block.resize(512, 0);
+    block[508..].copy_from_slice(&[0x01, 0x92, 0x0D, 0x54]);
+    let path = file("flat", &block);
+    let path = path.to_str().unwrap();
+    let picture = printed(&["slip", path, path], &[]);
+    assert!(picture.starts_with(b"P5\n# WRONG ON PURPOSE"));
+    assert_eq!(picture[picture.len() - 64..], [128; 64]);
+
+    let damaged = file("damaged", &block[1..]);
+    let output = second(&["slip", path, damaged.to_str().unwrap()], &[]);
+    assert_eq!(output.status.code(), Some(2));
+    assert!(String::from_utf8(output.stderr)
+        .unwrap()
+        .ends_with("refused by 6\n"));
+}
+
+#[test]
+fn help_is_no_misuse() {
+    let usage = String::from_utf8(printed(&["--help"], &[])).unwrap();
+    assert!(usage.starts_with("usage:\n"));
+    assert!(usage.lines().all(|line| line.len() <= 80));
+}
+
+#[test]
+fn the_version_is_the_projects() {
+    assert_eq!(
+        include_str!("../../../VERSION").trim(),
+        env!("CARGO_PKG_VERSION")
+    );
+}
+
 #[test]
 fn bad_words_and_bad_input_end_with_status_2() {
-    let bad: [&[&str]; 8] = [
+    let bad: [&[&str]; 10] = [
         &[],
         &["encode"],
         &["cases", "--seed", "1"],
@@ -96,6 +132,8 @@ fn bad_words_and_bad_input_end_with_status_2() {
         &["cases", "--seed", "1", "--count", "1", "--largest", "9"],
         &["compare", "one", "--requests", "none"],
         &["answer", "--fast"],
+        &["slip", "one"],
+        &["slip", "no such file", "no such file"],
     ];
     for words in bad {
         assert_eq!(second(words, &[]).status.code(), Some(2), "{:?}", words);
