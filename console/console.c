@@ -140,7 +140,7 @@ static void say_ended(size_t i, uint32_t number, const char *label)
         printf("it is %s\n", meaning(number));
         return;
     }
-    printf("it is not the %s (10)\n", i ? "next block of this record" : "first block of the record asked for");
+    printf("it is not the %s (10)\n", i ? "next block of this record" : "start of the record asked for");
     say_turn(i, label);
 }
 

@@ -36,7 +36,7 @@ def blocks_kept(record, asked):
             if label != asked:
                 bad += ['    its label is %s and not %s' % (label.decode(), asked.decode())]
             if block[:4] != record[:4]: bad += ["    its side, levels or planes are not block 0's"]
-            turn = 'next block of this record' if kept else 'first block of the record asked for'
+            turn = 'next block of this record' if kept else 'start of the record asked for'
             if bad: bad = ['not the %s (10)' % turn] + bad
             else: bits, kept = bits + payload[:count], kept + 1
     return bits, kept, bad

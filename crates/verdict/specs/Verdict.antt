@@ -68,7 +68,7 @@ unfoldable pub fault : ℕ → ℕ → List ℕ
 fault number i =
     pick (eqb number 8) (ascii "damaged, a check is wrong (8)\n")
     (pick (eqb number 9) (ascii "no block of edition 1, a field is wrong (9)\n")
-    (pick (eqb i 0) (ascii "not the first block of the record asked for (10)\n")
+    (pick (eqb i 0) (ascii "not the start of the record asked for (10)\n")
     (ascii "not the next block of this record (10)\n")))
 
 -- the reasons of 10, each that applies: it has another number, another label, or is unlike block 0 before the label

@@ -178,11 +178,7 @@ fn put_fault(number: u32, i: usize, line: &mut [u8], at: usize) -> usize
         return put(b"no block of edition 1, a field is wrong (9)\n", line, at);
     }
     if i == 0 {
-        return put(
-            b"not the first block of the record asked for (10)\n",
-            line,
-            at,
-        );
+        return put(b"not the start of the record asked for (10)\n", line, at);
     }
     put(b"not the next block of this record (10)\n", line, at)
 }
