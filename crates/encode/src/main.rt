@@ -35,35 +35,50 @@ fn write_help(fd: i32) {
 
 // Each function that can fail puts the line that says so into `line`, and answers its length: 0 where all went well.
 
-// A number of the header; from 999,999 on all are taken for one.
-fn put_most(text: &[u8], number: u32, line: &mut [u8], at: usize) -> usize {
-    let told = words::put_figure(text, number as u64, line, at);
-    if number < 999999 {
-        return told;
-    }
-    words::put(b" or more", line, told)
-}
-
 fn greys_line(most: u32, line: &mut [u8]) -> usize {
-    let greys = put_most(b"REFUSED: the greys run to ", most, line, 0);
+    let greys = words::put_figure(b"REFUSED: the greys run to ", most as u64, line, 0);
+    if most == 999999 {
+        return words::put(b" or more, and not to 255\n", line, greys);
+    }
     words::put(b", and not to 255\n", line, greys)
 }
 
+// From 999,999 on all sides are taken for one, so none of six digits is named.
 fn sides_line(width: u32, height: u32, line: &mut [u8]) -> usize {
-    let across = put_most(b"REFUSED: the picture is ", width, line, 0);
-    let down = put_most(b" by ", height, line, across);
+    if 99999 < width || 99999 < height {
+        return words::put(
+            b"REFUSED: the picture is too large: its side must be 8, 16, 32 or 64\n",
+            line,
+            0,
+        );
+    }
+    let across = words::put_figure(b"REFUSED: the picture is ", width as u64, line, 0);
+    let down = words::put_figure(b" by ", height as u64, line, across);
     words::put(b", and not a square of side 8, 16, 32 or 64\n", line, down)
 }
 
-fn cut_line(bytes: usize, start: usize, line: &mut [u8]) -> usize {
-    let read = words::put_figure(b"REFUSED: greys are missing: ", bytes as u64, line, 0);
-    let header = words::put_figure(
-        b" bytes read (at most 12288), header ",
-        start as u64,
+// Either the greys end too soon, or a header with long comments took their room.
+fn missing_line(header: Header, bytes: usize, line: &mut [u8]) -> usize {
+    let start = header.start;
+    if bytes == 12288 {
+        return words::put(
+            b"REFUSED: the header is too long: with its greys it may take 12288 bytes\n",
+            line,
+            0,
+        );
+    }
+    if bytes < start {
+        return words::put(b"REFUSED: greys are missing\n", line, 0);
+    }
+    let area = desk::area(square_pgm::side_of(header.width, header.height));
+    let came = words::put_figure(
+        b"REFUSED: greys are missing: ",
+        (bytes - start) as u64,
         line,
-        read,
+        0,
     );
-    words::put(b"\n", line, header)
+    let wanted = words::put_figure(b" came, and the picture has ", area as u64, line, came);
+    words::put(b"\n", line, wanted)
 }
 
 fn fault_line(fault: u32, header: Header, bytes: usize, line: &mut [u8]) -> usize {
@@ -75,7 +90,7 @@ fn fault_line(fault: u32, header: Header, bytes: usize, line: &mut [u8]) -> usiz
         ),
         2 => greys_line(header.most, line),
         3 => sides_line(header.width, header.height, line),
-        _ => cut_line(bytes, header.start, line),
+        _ => missing_line(header, bytes, line),
     }
 }
 
@@ -142,7 +157,7 @@ fn number_line(name: &[u8], line: &mut [u8]) -> usize {
     if os::errno() == libc::ENAMETOOLONG {
         return words::put(b" has more than 12288 characters\n", line, named);
     }
-    words::put(b" is not a whole number\n", line, named)
+    words::put(b" is not written in digits alone\n", line, named)
 }
 
 // The bit limit, which is beyond all bits where it is not given.
