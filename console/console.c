@@ -91,7 +91,7 @@ static int judge_alone(void)
     for (size_t i = 0; i < whole; i++)
         good += label_block_check(block_at(i), LABEL_BLOCK_BYTES) == LABEL_OK;
     if (!whole)
-        printf("BAD: no whole block came: %zu byte%s, and a block has 512 (6)\n", over, s(over));
+        printf("BAD: no whole block came, only %zu of 512 bytes (6)\n", over);
     else if (good == whole)
         printf("%s: %zu block%s, %s good alone", over ? "BAD" : "GOOD", whole, s(whole), whole == 1 ? "it is" : "each is");
     else
@@ -183,7 +183,7 @@ static int judge_record(const char *label)
         p = unfinished(kept, payload, room);
     free(payload);
     if (kept.refusal == LABEL_BAD_ROOM) {
-        printf("BAD: no whole block came: %zu byte%s, and a block has 512 (6)\n", over, s(over));
+        printf("BAD: no whole block came, only %zu of 512 bytes (6)\n", over);
         return NOT_WELL;
     }
     if (kept.refusal == LABEL_BAD_LABEL) {

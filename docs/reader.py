@@ -83,7 +83,7 @@ def greys(x, k, L):
 
 def opened(label, record):
     """What is said of a record, and its picture: none if it is refused."""
-    name, short = label.decode(), 'REFUSED: no whole block came: %d bytes, and a block has 512 (6)'
+    name, short = label.decode(), 'REFUSED: no whole block came, only %d of 512 bytes (6)'
     if len(record) < 512: return [short % len(record)], b''
     if len(label) != 8 or not label.isdigit():
         return ['REFUSED: the label given is not eight digits; leading zeros count (7)'], b''

@@ -30,8 +30,13 @@ fn write_help(fd: i32) {
 // Each function puts the lines that are said at its end into `line`, and answers their length.
 
 fn short_line(count: usize, line: &mut [u8]) -> usize {
-    let came = words::put_figure(b"REFUSED: no whole block came: ", count as u64, line, 0);
-    words::put(b" bytes, and a block has 512 (6)\n", line, came)
+    let came = words::put_figure(
+        b"REFUSED: no whole block came, only ",
+        count as u64,
+        line,
+        0,
+    );
+    words::put(b" of 512 bytes (6)\n", line, came)
 }
 
 fn side_line(label: &[u8], k: u32, line: &mut [u8]) -> usize {
