@@ -2,8 +2,8 @@
 -- stands behind it.
 use mathlib.Core.Path.{_≡_, refl, sym, ap, _∙_}
 use mathlib.Core.Bool.{Bool, true, false, not, _&&_}
-use mathlib.Core.List.{List, [], _∷_, _++_, append-assoc}
-use Prim.Native.Nat.{ℕ, zero, suc, _+_, _^_, _<_}
+use mathlib.Core.List.{List, [], _∷_, _++_, append-nil, append-assoc}
+use Prim.Native.Nat.{ℕ, zero, suc, _+_, _/_, _^_, _<_, _≤_}
 use native.Mathlib.Omega.{arith}
 use lib.Dec.{eqb}
 use lib.ListN.{length, drop, getD, length-append}
@@ -14,8 +14,11 @@ use Rattle.pgm.specs.declared.Number.{Number}
 use Rattle.pgm.specs.declared.Header.{Header}
 use Rattle.pgm.specs.Ascii.{ascii, decimal}
 use Rattle.pgm.specs.Header.{isSpace, isLineEnd, isDigit, isPassed, isInside, pastSpace, pastLine, withDigit, numberFrom, fieldAt, rasterAt, pastMagic, headerOf}
-use Rattle.square_pgm.specs.Sides.{sizeAmong, sideOf}
-use Rattle.square_pgm.specs.Text.{sidesText, headerText, isOneLine}
+use Rattle.words.specs.Line.{on, _puts_}
+use Rattle.words.proofs.Laws.{putsAll, oneText, puts-all}
+use Rattle.words.proofs.Decimal.{decimal-length}
+use Rattle.square_pgm.specs.Sides.{heldSize, sizeAmong, sideOf}
+use Rattle.square_pgm.specs.Text.{sidesText, headerText, headed, isOneLine}
 
 one-line : (a b : Bool) → not a && b ≡ true → (a ≡ false) × (b ≡ true)
 one-line false true h = (refl, refl)
@@ -135,3 +138,25 @@ header-read-back promise raster h = record {
     -- a digit ends what is passed over
     passed : (rest : List ℕ) → ((at : ℕ) → pastSpace false at rest ≡ at) → pastSpace true 5 ((promise ++ (10 ∷ [])) ++ rest) ≡ length (before promise) + 0
     passed rest e = comment-passed promise rest 5 h ∙ (e (5 + length (promise ++ (10 ∷ []))) ∙ omega arith)
+
+-- ---- what is written is this text, where there is room for it
+texts : ℕ → List ℕ → List (List ℕ)
+texts k promise = ascii "P5\n# " ∷ promise ∷ sidesText k ∷ []
+
+header-texts : (k : ℕ) (promise : List ℕ) → headerText k promise ≡ oneText (texts k promise)
+unfolding headerText oneText texts
+header-texts k promise = rw (append-nil (sidesText k))
+
+pub header-put : (k : ℕ) (promise bytes : List ℕ) → heldSize k ≡ true → length (headerText k promise) ≤ length bytes
+    → headed k promise (on bytes 0) ≡ on bytes 0 puts headerText k promise
+unfolding headed putsAll texts
+header-put k promise bytes held room =
+    let long : 0 + length (oneText (texts k promise)) ≤ length bytes = omega (arith, ap length (header-texts k promise)) in
+    rw held (puts-all (texts k promise) bytes 0 long ∙ ap (λ (text : List ℕ). on bytes 0 puts text) (sym (header-texts k promise)))
+
+-- it takes 16 bytes at most beside the promise
+pub header-room : (k : ℕ) (promise : List ℕ) → length (headerText k promise) ≤ length promise + 16
+unfolding headerText sidesText
+header-room k promise =
+    let d = decimal 2 (2 ^ k) in
+    omega (arith, length-append promise (10 ∷ (d ++ (32 ∷ (d ++ ascii "\n255\n")))), length-append d (32 ∷ (d ++ ascii "\n255\n")), length-append d (ascii "\n255\n"), decimal-length 2 (2 ^ k))

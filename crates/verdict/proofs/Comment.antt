@@ -14,10 +14,12 @@ use Rattle.paper.specs.Block.{labelCharacter, labelCharacters, isLabel}
 use Rattle.sizes.proofs.Ranges.{both-first, both-second}
 use Rattle.pgm.specs.Ascii.{ascii, decimal}
 use Rattle.pgm.specs.Header.{isLineEnd}
-use Rattle.square_pgm.specs.Text.{isOneLine}
-use Rattle.square_pgm.proofs.ReadBack.{HeadersReadBack, header-read-back}
+use Rattle.square_pgm.specs.Sides.{heldSize}
+use Rattle.square_pgm.specs.Text.{headerText, headed, isOneLine}
+use Rattle.square_pgm.proofs.ReadBack.{HeadersReadBack, header-read-back, header-put, header-room}
 use Rattle.words.specs.Line.{on, _puts_, figure}
 use Rattle.words.proofs.Laws.{putsAll, oneText, puts-all}
+use Rattle.words.proofs.Decimal.{decimal-length}
 use Rattle.verdict.specs.Verdict.{word, of255, promiseOf, promiseText}
 
 -- ---- no line end in it
@@ -103,15 +105,6 @@ module _ (label : List ℕ) (L p blocks : ℕ) (named : isLabel label ≡ true) 
   promise-read-back raster = header-read-back (promiseText label L p blocks) raster promise-one-line
 
 -- ---- all of it is there
-figure-length : (most n : ℕ) → length (decimal most n) ≤ most
-unfolding decimal
-figure-length zero n = omega arith
-figure-length (suc most) n = digits (ltb n 10) n (decimal most (n / 10)) (figure-length most (n / 10))
-  where
-    digits : (b : Bool) (n : ℕ) (front : List ℕ) → length front ≤ most → length (pick b ((48 + n) ∷ []) (front ++ ((48 + n % 10) ∷ []))) ≤ suc most
-    digits true n front h = omega arith
-    digits false n front h = omega (arith, length-append front ((48 + n % 10) ∷ []))
-
 word-length : (p : ℕ) → length (word p) ≤ 5
 unfolding word
 word-length p = go (eqb p 0)
@@ -139,7 +132,7 @@ one-text-length (text ∷ more) = rw (length-append text (oneText more), one-tex
 
 texts-length : (label : List ℕ) (L p blocks : ℕ) → length (oneText (texts label L p blocks)) ≤ length label + 102
 unfolding texts lengths
-texts-length label L p blocks = omega (arith, one-text-length (texts label L p blocks), word-length p, figure-length 20 p, figure-length 20 (greyLimit L p), of255-length blocks)
+texts-length label L p blocks = omega (arith, one-text-length (texts label L p blocks), word-length p, decimal-length 20 p, decimal-length 20 (greyLimit L p), of255-length blocks)
 
 -- in room of 128 bytes the promise of a label is put as one text
 pub promise-there : (bytes label : List ℕ) (L p blocks : ℕ) → 128 ≤ length bytes → length label ≤ 8
@@ -148,3 +141,10 @@ unfolding promiseOf putsAll texts
 promise-there bytes label L p blocks room short =
     let long : 0 + length (oneText (texts label L p blocks)) ≤ length bytes = omega (arith, texts-length label L p blocks) in
     puts-all (texts label L p blocks) bytes 0 long ∙ ap (λ (text : List ℕ). on bytes 0 puts text) (sym (promise-texts label L p blocks))
+
+-- and in room of 160 bytes the header with it is the text that is read back
+pub header-with-promise : (k : ℕ) (bytes label : List ℕ) (L p blocks : ℕ) → heldSize k ≡ true → 160 ≤ length bytes → length label ≤ 8
+    → headed k (promiseText label L p blocks) (on bytes 0) ≡ on bytes 0 puts headerText k (promiseText label L p blocks)
+header-with-promise k bytes label L p blocks held room short =
+    let promise = promiseText label L p blocks in
+    header-put k promise bytes held (omega (arith, header-room k promise, ap length (promise-texts label L p blocks), texts-length label L p blocks))

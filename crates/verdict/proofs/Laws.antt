@@ -28,18 +28,18 @@ no-side k a b c d e f = go (leb 3 k) refl
 
 -- the last block is full exactly if the bits fill all blocks
 module _ (blocks bits p : ℕ) where
-  pub awaits-none : p ≡ 0 → false ≡ awaits blocks bits p
+  pub awaits-none : eqb p 0 ≡ true → false ≡ awaits blocks bits p
   unfolding awaits
-  awaits-none e = rw (eq-eqb p 0 e)
+  awaits-none e = rw e
 
-  module _ (u : p ≡ 0 → ⊥) where
+  module _ (u : eqb p 0 ≡ false) where
     pub awaits-not : (bits / payloadBits payloadStart ≡ blocks → ⊥) → false ≡ awaits blocks bits p
     unfolding awaits
-    awaits-not h = rw (ne-eqb p 0 u, ne-eqb bits (payloadBits payloadStart * blocks) (λ e. h (omega (arith, e))))
+    awaits-not h = rw (u, ne-eqb bits (payloadBits payloadStart * blocks) (λ e. h (omega (arith, e))))
 
     pub awaits-full : bits / payloadBits payloadStart ≡ blocks → eqb (bits % payloadBits payloadStart) 0 ≡ awaits blocks bits p
     unfolding awaits
-    awaits-full h = rw (ne-eqb p 0 u) (go (eqb (bits % payloadBits payloadStart) 0) refl)
+    awaits-full h = rw u (go (eqb (bits % payloadBits payloadStart) 0) refl)
       where
         go : (t : Bool) → eqb (bits % payloadBits payloadStart) 0 ≡ t → eqb (bits % payloadBits payloadStart) 0 ≡ eqb bits (payloadBits payloadStart * blocks)
         go true e = rw (e, eq-eqb bits (payloadBits payloadStart * blocks) (omega (arith, h, eqb-true (bits % payloadBits payloadStart) 0 e)))

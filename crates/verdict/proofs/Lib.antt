@@ -2,3 +2,4 @@
 pub mod Laws
 pub mod Comment
 pub mod Turn
+pub mod Told

@@ -3,6 +3,7 @@
 ghost use mathlib.Core.Path.{_≡_};
 ghost use mathlib.Core.Bool.{Bool};
 ghost use Prim.Native.Nat.{_-_, _≤_};
+ghost use lib.Dec.{eqb};
 ghost use lib.ListN.{length};
 ghost use Rattle.paper.specs.Block.{blockBytes};
 ghost use Rattle.words.specs.Line.{on, _puts_};
@@ -12,11 +13,18 @@ use block::PAYLOAD_BITS;
 use words::put;
 use words::put_figure;
 
+// Only a picture with no unfinished plane is whole.
+fn is_whole(unfinished: u32) -> bool
+    ensures { λ r. ⌜ r ≡ eqb unfinished 0 ⌝ }
+{
+    unfinished == 0
+}
+
 // WHOLE, or CUT where planes are unfinished.
 fn put_word(unfinished: u32, line: &mut [u8], at: usize) -> usize
     ensures { λ r. ⌜ on (now (line .entry)) at puts word unfinished ≡ on (now (line .exit)) r ⌝ }
 {
-    if unfinished == 0 {
+    if is_whole(unfinished) {
         return put(b"WHOLE", line, at);
     }
     put(b"CUT", line, at)
@@ -51,7 +59,7 @@ fn put_title(label: &[u8], k: u32, unfinished: u32, line: &mut [u8]) -> usize
 fn awaits_more(blocks: usize, bits: usize, unfinished: u32) -> bool
     ensures { λ r. ⌜ r ≡ awaits blocks bits unfinished ⌝ }
 {
-    if unfinished == 0 {
+    if is_whole(unfinished) {
         return false;
     }
     if bits / PAYLOAD_BITS != blocks {
@@ -101,7 +109,7 @@ fn put_one_shot(blocks: usize, line: &mut [u8], at: usize) -> usize
 fn put_worth(levels: u32, unfinished: u32, blocks: usize, line: &mut [u8], at: usize) -> usize
     ensures { λ r. ⌜ worth levels unfinished blocks (on (now (line .entry)) at) ≡ on (now (line .exit)) r ⌝ }
 {
-    if unfinished == 0 {
+    if is_whole(unfinished) {
         let right = put(b"  every grey is right: the very picture", line, at);
         return put_one_shot(blocks, line, right);
     }

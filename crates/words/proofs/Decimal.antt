@@ -5,7 +5,9 @@ use mathlib.Core.List.{List, [], _∷_, _++_}
 use Prim.Native.Nat.{ℕ, zero, suc, _+_, _*_, _-_, _/_, _%_, _^_, _<_, _≤_}
 use native.Mathlib.Omega.{arith}
 use native.Mathlib.Nat.{pow-suc, pow-le-pow-right, mod-eq-of-lt}
-use lib.Dec.{leb}
+use lib.Dec.{leb, ltb}
+use lib.ListN.{length, length-append}
+use Rattle.paper.specs.Lists.{pick}
 use borrow.Author.Tests.{lt-ltb, le-ltb, leb-true, leb-false}
 use Rattle.io.specs.Digits.{glyph, digits, Fewest}
 use Rattle.pgm.specs.Ascii.{decimal}
@@ -47,3 +49,13 @@ fewest-digits (suc k) n s f = digits-are k 20 n (few (suc k) n s f) (f .1) (λ h
   where
     e : (k : ℕ) → suc k - 1 ≡ k
     e k = omega arith
+
+-- a number has no more digits than it may have
+pub decimal-length : (most n : ℕ) → length (decimal most n) ≤ most
+unfolding decimal
+decimal-length zero n = omega arith
+decimal-length (suc most) n = digits (ltb n 10) n (decimal most (n / 10)) (decimal-length most (n / 10))
+  where
+    digits : (b : Bool) (n : ℕ) (front : List ℕ) → length front ≤ most → length (pick b ((48 + n) ∷ []) (front ++ ((48 + n % 10) ∷ []))) ≤ suc most
+    digits true n front h = omega arith
+    digits false n front h = omega (arith, length-append front ((48 + n % 10) ∷ []))

@@ -1,8 +1,11 @@
 use Rattle.verdict.specs.Verdict.{word}
-use borrow.Author.Tests.{eq-eqb, ne-eqb}
+use mathlib.Core.Path.{sym, _∙_}
 use borrow.Author.Needs.{needs}
 use Rattle.verdict.proofs.put_word.Statement.{statement}
 use Rattle.verdict.proofs.put_word.Tie as tie
+
+is-whole-requires : tie.Need-is-whole-requires
+is-whole-requires c κs = tt
 
 slice-aggregate-put : tie.Need-slice-aggregate-put
 slice-aggregate-put c = search needs
@@ -16,7 +19,7 @@ same-length c = search needs
 returns : tie.Need-returns
 unfolding word
 returns c =
-    rw (eq-eqb _ 0 (c .before .before .before .before .before .if1 .taken)) (c .before .before .put .ensures)
+    rw (sym (c .before .before .before .before .before .before .is-whole .ensures) ∙ c .before .before .before .before .before .if1 .taken) (c .before .before .put .ensures)
 
 slice-aggregate-put-2 : tie.Need-slice-aggregate-put-2
 slice-aggregate-put-2 c = search needs
@@ -30,12 +33,12 @@ same-length-2 c = search needs
 returns-2 : tie.Need-returns-2
 unfolding word
 returns-2 c =
-    rw (ne-eqb _ 0 (c .before .before .before .before .before .if1 .left)) (c .before .before .put2 .ensures)
+    rw (sym (c .before .before .before .before .before .before .is-whole .ensures) ∙ c .before .before .before .before .before .if1 .left) (c .before .before .put2 .ensures)
 
 pub put-word-spec : {M : Type 1} → statement M
 put-word-spec =
     tie.close
-    (tie.spec
+    (tie.spec is-whole-requires
     slice-aggregate-put
     put-requires
     same-length

@@ -1,8 +1,12 @@
 use Rattle.verdict.specs.Verdict.{worth}
 use borrow.Author.Tests.{eq-eqb, ne-eqb}
+use mathlib.Core.Path.{sym, _∙_}
 use borrow.Author.Needs.{needs}
 use Rattle.verdict.proofs.put_worth.Statement.{statement}
 use Rattle.verdict.proofs.put_worth.Tie as tie
+
+is-whole-requires : tie.Need-is-whole-requires
+is-whole-requires c κs = tt
 
 slice-aggregate-put : tie.Need-slice-aggregate-put
 slice-aggregate-put c = search needs
@@ -19,7 +23,7 @@ same-length c = search needs
 returns : tie.Need-returns
 unfolding worth
 returns c =
-    rw (eq-eqb _ 0 (c .before .before .before .before .before .before .before .before .before .if1 .taken), c .before .before .before .before .before .before .put .ensures) (c .before .before .put-one-shot .ensures)
+    rw ((sym (c .before .before .before .before .before .before .before .before .before .before .is-whole .ensures) ∙ c .before .before .before .before .before .before .before .before .before .if1 .taken), c .before .before .before .before .before .before .put .ensures) (c .before .before .put-one-shot .ensures)
 
 grey-limit-requires : tie.Need-grey-limit-requires
 grey-limit-requires c κs = search needs
@@ -36,7 +40,7 @@ same-length-2 c = search needs
 returns-2 : tie.Need-returns-2
 unfolding worth
 returns-2 c =
-    rw (ne-eqb _ 0 (c .before .before .before .before .before .before .before .if1 .left), ← c .before .before .before .before .before .before .grey-limit .ensures, eq-eqb _ 255 (c .before .before .before .before .before .if2 .taken)) (c .before .before .put2 .ensures)
+    rw ((sym (c .before .before .before .before .before .before .before .before .is-whole .ensures) ∙ c .before .before .before .before .before .before .before .if1 .left), ← c .before .before .before .before .before .before .grey-limit .ensures, eq-eqb _ 255 (c .before .before .before .before .before .if2 .taken)) (c .before .before .put2 .ensures)
 
 slice-aggregate-put-figure : tie.Need-slice-aggregate-put-figure
 slice-aggregate-put-figure c = search needs
@@ -62,12 +66,12 @@ same-length-3 c = search needs
 returns-3 : tie.Need-returns-3
 unfolding worth
 returns-3 c =
-    rw (ne-eqb _ 0 (c .before .before .before .before .before .before .before .before .before .before .before .before .before .before .before .before .if1 .left), ← c .before .before .before .before .before .before .before .before .before .before .before .before .before .before .before .grey-limit .ensures, ne-eqb _ 255 (c .before .before .before .before .before .before .before .before .before .before .before .before .before .before .if2 .left), c .before .before .before .before .before .before .before .before .before .before .before .put-figure .ensures, c .before .before .before .before .before .before .put3 .ensures) (c .before .before .put-one-shot2 .ensures)
+    rw ((sym (c .before .before .before .before .before .before .before .before .before .before .before .before .before .before .before .before .before .is-whole .ensures) ∙ c .before .before .before .before .before .before .before .before .before .before .before .before .before .before .before .before .if1 .left), ← c .before .before .before .before .before .before .before .before .before .before .before .before .before .before .before .grey-limit .ensures, ne-eqb _ 255 (c .before .before .before .before .before .before .before .before .before .before .before .before .before .before .if2 .left), c .before .before .before .before .before .before .before .before .before .before .before .put-figure .ensures, c .before .before .before .before .before .before .put3 .ensures) (c .before .before .put-one-shot2 .ensures)
 
 pub put-worth-spec : {M : Type 1} → statement M
 put-worth-spec =
     tie.close
-    (tie.spec
+    (tie.spec is-whole-requires
     slice-aggregate-put
     put-requires
     put-one-shot-requires
