@@ -18,7 +18,7 @@ use Rattle.square_pgm.specs.Sides.{heldSize}
 use Rattle.square_pgm.specs.Text.{headerText, headed, isOneLine}
 use Rattle.square_pgm.proofs.ReadBack.{HeadersReadBack, header-read-back, header-put, header-room}
 use Rattle.words.specs.Line.{on, _puts_, figure}
-use Rattle.words.proofs.Laws.{putsAll, oneText, puts-all}
+use Rattle.words.proofs.Laws.{putsAll, oneText, lengths, one-text-length, puts-all}
 use Rattle.words.proofs.Decimal.{decimal-length}
 use Rattle.verdict.specs.Verdict.{word, of255, promiseOf, promiseText}
 
@@ -105,7 +105,7 @@ module _ (label : List ℕ) (L p blocks : ℕ) (named : isLabel label ≡ true) 
   promise-read-back raster = header-read-back (promiseText label L p blocks) raster promise-one-line
 
 -- ---- all of it is there
-word-length : (p : ℕ) → length (word p) ≤ 5
+pub word-length : (p : ℕ) → length (word p) ≤ 5
 unfolding word
 word-length p = go (eqb p 0)
   where
@@ -120,15 +120,6 @@ of255-length blocks = go (leb blocks 1)
     go : (b : Bool) → length (pick b (ascii " of 255") (ascii " of 255, if of one shot")) ≤ 23
     go true = omega arith
     go false = omega arith
-
-lengths : List (List ℕ) → ℕ
-lengths [] = 0
-lengths (text ∷ more) = length text + lengths more
-
-one-text-length : (more : List (List ℕ)) → length (oneText more) ≡ lengths more
-unfolding lengths oneText
-one-text-length [] = refl
-one-text-length (text ∷ more) = rw (length-append text (oneText more), one-text-length more)
 
 texts-length : (label : List ℕ) (L p blocks : ℕ) → length (oneText (texts label L p blocks)) ≤ length label + 102
 unfolding texts lengths

@@ -3,3 +3,4 @@ pub mod Laws
 pub mod Comment
 pub mod Turn
 pub mod Told
+pub mod Room

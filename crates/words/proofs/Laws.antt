@@ -104,3 +104,23 @@ puts-all (text ∷ texts) bytes at h =
     ap (λ (line : Line). putsAll line texts) there
     ∙ (puts-all texts (next ++ drop (length next) bytes) (length next) behind
     ∙ (ap (λ (line : Line). line puts oneText texts) (sym there) ∙ puts-joined bytes text (oneText texts) at room))
+
+unfoldable pub lengths : List (List ℕ) → ℕ
+lengths [] = 0
+lengths (text ∷ texts) = length text + lengths texts
+
+pub one-text-length : (texts : List (List ℕ)) → length (oneText texts) ≡ lengths texts
+unfolding lengths oneText
+one-text-length [] = refl
+one-text-length (text ∷ texts) = rw (length-append text (oneText texts), one-text-length texts)
+
+-- some texts, and then others
+pub puts-more : (texts more : List (List ℕ)) (line : Line) → putsAll line (texts ++ more) ≡ putsAll (putsAll line texts) more
+unfolding putsAll
+puts-more [] more line = refl
+puts-more (text ∷ texts) more line = puts-more texts more (line puts text)
+
+pub lengths-more : (texts more : List (List ℕ)) → lengths (texts ++ more) ≡ lengths texts + lengths more
+unfolding lengths
+lengths-more [] more = omega arith
+lengths-more (text ∷ texts) more = rw (lengths-more texts more) (omega arith)
