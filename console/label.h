@@ -28,7 +28,8 @@
  *
  *     Nothing is allocated and nothing is kept between calls; a call takes at most LABEL_STACK_BYTES of
  *     stack. A slice is a pointer and a count of elements. No slice that is written to overlaps another (two
- *     that are only read may, as a label within the blocks); a pointer is not NULL, even where the count is 0.
+ *     that are only read may, as a label within the blocks). A pointer is never NULL, not even where the
+ *     count is 0.
  *
  *     What a cut picture is worth, with p planes unfinished: no wavelet number's magnitude is above the true
  *     one, none is short by more than 2^p - 1, none that isn't zero has the wrong sign, and no grey is off by
