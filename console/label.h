@@ -16,8 +16,8 @@
  *     One block:
  *         label_block_check
  *
- *     Link with libconsole.a (x86-64, made by `rt staticlib console`). Of the C library it asks for memcpy
- *     and memset, no more.
+ *     Link with liblabel.a where it is installed, libconsole.a in the source tree (x86-64, made by
+ *     `rt staticlib console`). Of the C library it asks for memcpy and memset, no more.
  *
  * DESCRIPTION
  *     A picture has S x S greys of one byte, S = 2^k, k from 3 to 8, row by row. Its S x S wavelet numbers,
@@ -27,8 +27,9 @@
  *     never a number: leading zeros count.
  *
  *     Nothing is allocated and nothing is kept between calls; a call takes at most LABEL_STACK_BYTES of
- *     stack. A slice is a pointer and a count of elements. Slices lent to one call do not overlap; a pointer
- *     is not NULL, even where the count is 0.
+ *     stack. A slice is a pointer and a count of elements. No slice that is written to overlaps another (two
+ *     that are only read may, as a label within the blocks). A pointer is never NULL, not even where the
+ *     count is 0.
  *
  *     What a cut picture is worth, with p planes unfinished: no wavelet number's magnitude is above the true
  *     one, none is short by more than 2^p - 1, none that isn't zero has the wrong sign, and no grey is off by

@@ -15,7 +15,7 @@ than (7L + 1)(2^p - 1), and with p = 0 it is the very picture; if all blocks are
 of one shot. Blocks of two shots under one label with the same k, L and n splice
 unnoticed in edition 1, read here; edition 2's mount number (to come) closes it.
 """
-import sys
+import os, sys
 
 def blocks_kept(record, asked):
     """Which blocks a reader keeps: their bits, how many they are, what is wrong with the next."""
@@ -45,8 +45,7 @@ def wavelet_numbers(bits, k, L, n):
     """From bits to wavelet numbers, in Z order, and p, the number of unfinished planes."""
     S, p, bits = 2 ** k, n, iter(bits)
     magnitude, sign = [0] * S ** 2, [1] * S ** 2
-    def is_open(start, end):
-        return max(magnitude[start:end]) >= 2 * T or next(bits) == 1
+    def is_open(start, end): return max(magnitude[start:end]) >= 2 * T or next(bits) == 1
     def read_set(start, length):
         if length == 1: read_number(start)
         elif is_open(start, start + length):
@@ -105,16 +104,17 @@ def opened(label, record):
     return said, header.encode() + greys(numbers, k, L)
 
 if __name__ == '__main__':
-    given = sys.argv[1:]
-    if given in (['--help'], ['--version']):
-        sys.exit(print(__doc__.strip() if given == ['--help'] else 'reader.py 0.2.0, edition 1'))
-    if len(given) != 3 or given[0][:1] == '-':
-        sys.exit(print(__doc__.strip(), file=sys.stderr) or 2)
+    given, text = sys.argv[1:], __doc__.strip()
+    if given == ['--version']: sys.exit(print('reader.py 0.2.0, edition 1'))
+    if given == ['--help']: sys.exit(print(text))
+    if len(given) != 3 or given[0][:1] == '-': sys.exit(print(text, file=sys.stderr) or 2)
     try:
         with open(given[1], 'rb') as file: record = file.read()
         said, picture = opened(given[0].encode('ascii', 'replace'), record)
         if picture:
-            with open(given[2], 'xb') as file: file.write(picture)
-    except OSError as error: said, picture = ['REFUSED: ' + str(error)], b''
-    print('\n'.join(said))
-    sys.exit(0 if picture else 1)
+            file = open(given[2], 'xb')  # a file that is there already is left alone
+            try:
+                with file: file.write(picture)
+            except: os.remove(given[2]); raise  # no part of a picture stays
+    except OSError as error: said, picture = [('REFUSED: %s' % error)[:80]], b''
+    sys.exit(print('\n'.join(said)) or (0 if picture else 1))

@@ -1,6 +1,8 @@
 """PGM pictures for tools/view and tools/poster: read with any header that netpbm's tools read, or refused by name."""
 import sys
 
+WIDE = 80
+
 
 class Refused(Exception):
     """A file that is no picture that can be shown, and why."""
@@ -20,6 +22,8 @@ def header(data):
             at, letter = end + 1, '\n'
         if letter in ('0', '1', '2', '3', '4', '5', '6', '7', '8', '9') and at > 3:
             digits += letter
+            if len(digits) > 9:
+                raise Refused('its header has a number of more than nine digits')
         elif letter and letter in ' \t\n\v\f\r':
             numbers += [int(digits)] if digits else []
             digits = ''
@@ -45,6 +49,19 @@ def read(name):
     return [data[at + row * width:at + (row + 1) * width] for row in range(height)], comment
 
 
+def shown(name, width):
+    """A name as a terminal shows it in so many columns: its end if it is long, ? for what is no letter of ASCII."""
+    name = ''.join(c if ' ' <= c <= '~' else '?' for c in name)
+    return name if len(name) <= width else '..' + name[2 - width:]
+
+
+def refuse(tool, name, why):
+    """Says in one line which file is bad, and why, and ends with 1."""
+    why = ': %s' % why
+    print('%s: %s%s' % (tool, shown(name, WIDE - len(tool) - 2 - len(why)), why), file=sys.stderr)
+    sys.exit(1)
+
+
 def read_all(tool, names):
     """Pictures of one size, with their comments; else says which file is bad, and ends with 1."""
     pictures = []
@@ -55,7 +72,6 @@ def read_all(tool, names):
                 first = pictures[0][0]
                 raise Refused('it is %d by %d, and the first is %d by %d' % (len(rows[0]), len(rows), len(first[0]), len(first)))
         except Refused as refused:
-            print('%s: %s: %s' % (tool, name, refused), file=sys.stderr)
-            sys.exit(1)
+            refuse(tool, name, refused)
         pictures.append((rows, comment))
     return pictures

@@ -93,7 +93,7 @@ impl fmt::Display for Refusal {
             Refusal::Label => "the label given is not eight digits; leading zeros count",
             Refusal::Damaged => "a block is damaged, a check is wrong",
             Refusal::Fields => "a block is no block of edition 1, a field is wrong",
-            Refusal::Turn => "a block is not the next block of this record",
+            Refusal::Turn => "a block is out of its turn in the record asked for",
         })
     }
 }

@@ -260,11 +260,17 @@ fn fields() {
 fn turns() {
     let record = long_record();
     // another label, and the first block lost
-    assert_eq!(read(&record, b"00000418", room_for(&record)), Err(Refusal::Turn));
+    let refused = read(&record, b"00000418", room_for(&record)).unwrap_err();
+    // words that fit block 0 too
+    let words = "a block is out of its turn in the record asked for";
+    assert_eq!((refused, refused.to_string().as_str()), (Refusal::Turn, words));
     assert_eq!(
         read(&record[BLOCK_BYTES..], LABEL, room_for(&record)),
         Err(Refusal::Turn)
     );
+    // slices that are only read may overlap: the label as it stands in the record
+    let kept = read(&record, &record[4..12], room_for(&record)).expect("it is its label");
+    assert_eq!(Ok(kept), read(&record, LABEL, room_for(&record)));
     // the second block lost, doubled, or of another label
     let lost = [&record[..512], &record[1024..]].concat();
     let doubled = [&record[..512], &record[..512]].concat();
