@@ -109,7 +109,7 @@ fn decode(room: &mut [u8], count: usize, label: &[u8], line: &mut [u8]) -> usize
         return short_line(count, line);
     }
     if 7 < kept.refusal {
-        return verdict::refused(kept.refusal, &room[..count], label, line);
+        return faults::refused(kept.refusal, &room[..count], label, line);
     }
     if kept.refusal != 0 {
         return remarks::refused(kept.refusal, line);
@@ -118,7 +118,7 @@ fn decode(room: &mut [u8], count: usize, label: &[u8], line: &mut [u8]) -> usize
         return side_line(label, kept.k, line);
     }
     let mut ended = [0u8; 320];
-    let told = verdict::ended(kept.ended, &room[..count], label, kept.blocks, &mut ended);
+    let told = faults::ended(kept.ended, &room[..count], label, kept.blocks, &mut ended);
     rebuild(kept, &payload, label, &ended[..told], room, line)
 }
 

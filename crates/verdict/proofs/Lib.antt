@@ -1,6 +1,5 @@
 -- Laws of what decode says, and of the promise in the picture's header.
 pub mod Laws
 pub mod Comment
-pub mod Turn
 pub mod Told
 pub mod Room

@@ -1,5 +1,5 @@
--- What decode says is settled by the contracts themselves, as the checker reads them from src/lib.rt (`Post` of their `Reads`): the
--- room at exit and the count answered are the definition's.
+-- What decode says of a picture is settled by the contracts themselves, as the checker reads them from src/lib.rt (`Post` of their `Reads`): the room
+-- at exit and the count answered are the definition's.
 use mathlib.Core.Path.{_≡_}
 use denote.Ref.{now}
 use denote.Triple.Clauses.{AtExit}
@@ -7,16 +7,10 @@ use contract.Lifetimes.{Lfts}
 use borrow.Fn.World.{ArgsD, ResD}
 use borrow.Fn.Kinds.{endedOf as endedAt}
 use Rattle.words.specs.Line.{on}
-use Rattle.verdict.specs.Verdict.{reportOf, endedOf, refusedOf, promiseOf}
+use Rattle.verdict.specs.Verdict.{reportOf, promiseOf}
 use Rattle.verdict.proofs.report as report-fn
 use Rattle.verdict.proofs.report.Kinds as report-kinds
 use Rattle.verdict.proofs.report.Reads as report-contract
-use Rattle.verdict.proofs.ended as ended-fn
-use Rattle.verdict.proofs.ended.Kinds as ended-kinds
-use Rattle.verdict.proofs.ended.Reads as ended-contract
-use Rattle.verdict.proofs.refused as refused-fn
-use Rattle.verdict.proofs.refused.Kinds as refused-kinds
-use Rattle.verdict.proofs.refused.Reads as refused-contract
 use Rattle.verdict.proofs.promise as promise-fn
 use Rattle.verdict.proofs.promise.Kinds as promise-kinds
 use Rattle.verdict.proofs.promise.Reads as promise-contract
@@ -26,16 +20,6 @@ pub report-says : (κs : Lfts 3) (a : ArgsD report-fn.signature κs) (r : ResD r
     → reportOf (now (a .0)) (a .1 .0) (a .1 .1 .0) (a .1 .1 .1 .0) (a .1 .1 .1 .1 .0) (a .1 .1 .1 .1 .1 .0) (a .1 .1 .1 .1 .1 .1 .0) (now (a .1 .1 .1 .1 .1 .1 .1 .0)) (on (now (a .1 .1 .1 .1 .1 .1 .1 .1 .0)) 0)
     ≡ on (now (s .1 .1 .1 .1 .1 .1 .1 .1 .0)) r
 report-says κs a r s x = x
-
-pub ended-says : (κs : Lfts 3) (a : ArgsD ended-fn.signature κs) (r : ResD ended-fn.signature κs) (s : AtExit (endedAt 3 ended-kinds.ps ended-kinds.r) κs)
-    → ended-contract.Post κs a r s
-    → endedOf (a .0) (now (a .1 .0)) (now (a .1 .1 .0)) (a .1 .1 .1 .0) (on (now (a .1 .1 .1 .1 .0)) 0) ≡ on (now (s .1 .1 .1 .1 .0)) r
-ended-says κs a r s x = x .0
-
-pub refused-says : (κs : Lfts 3) (a : ArgsD refused-fn.signature κs) (r : ResD refused-fn.signature κs) (s : AtExit (endedAt 3 refused-kinds.ps refused-kinds.r) κs)
-    → refused-contract.Post κs a r s
-    → refusedOf (a .0) (now (a .1 .0)) (now (a .1 .1 .0)) (on (now (a .1 .1 .1 .0)) 0) ≡ on (now (s .1 .1 .1 .0)) r
-refused-says κs a r s x = x
 
 pub promise-says : (κs : Lfts 2) (a : ArgsD promise-fn.signature κs) (r : ResD promise-fn.signature κs) (s : AtExit (endedAt 2 promise-kinds.ps promise-kinds.r) κs)
     → promise-contract.Post κs a r s

@@ -1,7 +1,7 @@
-use Rattle.verdict.specs.Verdict.{reasons}
+use Rattle.faults.specs.Faults.{reasons}
 use borrow.Author.Needs.{needs}
-use Rattle.verdict.proofs.put_reasons.Statement.{statement}
-use Rattle.verdict.proofs.put_reasons.Tie as tie
+use Rattle.faults.proofs.put_reasons.Statement.{statement}
+use Rattle.faults.proofs.put_reasons.Tie as tie
 
 pair-at-requires : tie.Need-pair-at-requires
 pair-at-requires c κs = search needs

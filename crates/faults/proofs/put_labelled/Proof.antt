@@ -1,8 +1,8 @@
-use Rattle.verdict.specs.Verdict.{labelled}
+use Rattle.faults.specs.Faults.{labelled}
 use mathlib.Core.Path.{sym, _∙_}
 use borrow.Author.Needs.{needs}
-use Rattle.verdict.proofs.put_labelled.Statement.{statement}
-use Rattle.verdict.proofs.put_labelled.Tie as tie
+use Rattle.faults.proofs.put_labelled.Statement.{statement}
+use Rattle.faults.proofs.put_labelled.Tie as tie
 
 same-bytes-requires : tie.Need-same-bytes-requires
 same-bytes-requires c κs = search needs

@@ -1,8 +1,8 @@
-use Rattle.verdict.specs.Verdict.{fault}
+use Rattle.faults.specs.Faults.{fault}
 use borrow.Author.Tests.{eq-eqb, ne-eqb}
 use borrow.Author.Needs.{needs}
-use Rattle.verdict.proofs.put_fault.Statement.{statement}
-use Rattle.verdict.proofs.put_fault.Tie as tie
+use Rattle.faults.proofs.put_fault.Statement.{statement}
+use Rattle.faults.proofs.put_fault.Tie as tie
 
 slice-aggregate-put : tie.Need-slice-aggregate-put
 slice-aggregate-put c = search needs

@@ -1,8 +1,8 @@
-use Rattle.verdict.specs.Verdict.{unlike}
+use Rattle.faults.specs.Faults.{unlike}
 use mathlib.Core.Path.{sym, _∙_}
 use borrow.Author.Needs.{needs}
-use Rattle.verdict.proofs.put_unlike.Statement.{statement}
-use Rattle.verdict.proofs.put_unlike.Tie as tie
+use Rattle.faults.proofs.put_unlike.Statement.{statement}
+use Rattle.faults.proofs.put_unlike.Tie as tie
 
 same-bytes-requires : tie.Need-same-bytes-requires
 same-bytes-requires c κs = search needs

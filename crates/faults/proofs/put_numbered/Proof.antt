@@ -1,8 +1,8 @@
-use Rattle.verdict.specs.Verdict.{numbered}
+use Rattle.faults.specs.Faults.{numbered}
 use borrow.Author.Tests.{eq-eqb, ne-eqb}
 use borrow.Author.Needs.{needs}
-use Rattle.verdict.proofs.put_numbered.Statement.{statement}
-use Rattle.verdict.proofs.put_numbered.Tie as tie
+use Rattle.faults.proofs.put_numbered.Statement.{statement}
+use Rattle.faults.proofs.put_numbered.Tie as tie
 
 returns : tie.Need-returns
 unfolding numbered

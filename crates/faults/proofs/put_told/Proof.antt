@@ -1,8 +1,8 @@
-use Rattle.verdict.specs.Verdict.{told}
+use Rattle.faults.specs.Faults.{told}
 use borrow.Author.Tests.{eq-eqb, ne-eqb, le-leb, lt-leb}
 use borrow.Author.Needs.{needs}
-use Rattle.verdict.proofs.put_told.Statement.{statement}
-use Rattle.verdict.proofs.put_told.Tie as tie
+use Rattle.faults.proofs.put_told.Statement.{statement}
+use Rattle.faults.proofs.put_told.Tie as tie
 
 put-fault-requires : tie.Need-put-fault-requires
 put-fault-requires c κs = search needs

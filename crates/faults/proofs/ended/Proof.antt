@@ -1,8 +1,8 @@
-use Rattle.verdict.proofs.Laws.{ended-inside, ended-none, ended-told}
+use Rattle.faults.proofs.Laws.{ended-inside, ended-none, ended-told}
 use Rattle.words.proofs.Laws.{and-inside}
 use borrow.Author.Needs.{needs}
-use Rattle.verdict.proofs.ended.Statement.{statement}
-use Rattle.verdict.proofs.ended.Tie as tie
+use Rattle.faults.proofs.ended.Statement.{statement}
+use Rattle.faults.proofs.ended.Tie as tie
 
 returns : tie.Need-returns
 returns c =

@@ -1,7 +1,7 @@
-use Rattle.verdict.specs.Verdict.{refusedOf}
+use Rattle.faults.specs.Faults.{refusedOf}
 use borrow.Author.Needs.{needs}
-use Rattle.verdict.proofs.refused.Statement.{statement}
-use Rattle.verdict.proofs.refused.Tie as tie
+use Rattle.faults.proofs.refused.Statement.{statement}
+use Rattle.faults.proofs.refused.Tie as tie
 
 slice-aggregate-put : tie.Need-slice-aggregate-put
 slice-aggregate-put c = search needs

@@ -1,0 +1,2 @@
+-- What is said of a block that is not kept.
+pub mod Faults
