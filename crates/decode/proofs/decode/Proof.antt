@@ -8,8 +8,8 @@ use Rattle.decode.proofs.short_line.Reads as short-line-reads
 use Rattle.decode.proofs.side_line.Reads as side-line-reads
 use Rattle.label.proofs.read.Reads as read-reads
 use Rattle.remarks.proofs.refused.Reads as refused-reads
-use Rattle.verdict.proofs.ended.Reads as ended-reads
-use Rattle.verdict.proofs.refused.Reads as refused-reads′
+use Rattle.faults.proofs.ended.Reads as ended-reads
+use Rattle.faults.proofs.refused.Reads as refused-reads′
 
 returns : tie.Need-returns
 returns c = search needs
