@@ -3,13 +3,6 @@ use lib.Seq.{length-take-le}
 use borrow.Author.Needs.{needs}
 use Rattle.decode.proofs.decode.Statement.{statement}
 use Rattle.decode.proofs.decode.Tie as tie
-use Rattle.decode.proofs.rebuild.Reads as rebuild-reads
-use Rattle.decode.proofs.short_line.Reads as short-line-reads
-use Rattle.decode.proofs.side_line.Reads as side-line-reads
-use Rattle.label.proofs.read.Reads as read-reads
-use Rattle.remarks.proofs.refused.Reads as refused-reads
-use Rattle.faults.proofs.ended.Reads as ended-reads
-use Rattle.faults.proofs.refused.Reads as refused-reads′
 
 returns : tie.Need-returns
 returns c = search needs

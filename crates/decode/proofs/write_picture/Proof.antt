@@ -3,10 +3,6 @@ use lib.Seq.{length-take-le}
 use borrow.Author.Needs.{needs}
 use Rattle.decode.proofs.write_picture.Statement.{statement}
 use Rattle.decode.proofs.write_picture.Tie as tie
-use Rattle.desk.proofs.area.Reads as area-reads
-use Rattle.pipes.proofs.write_front.Reads as write-front-reads
-use Rattle.square_pgm.proofs.write_header.Reads as write-header-reads
-use Rattle.verdict.proofs.promise.Reads as promise-reads
 
 slice-aggregate-promise : tie.Need-slice-aggregate-promise
 slice-aggregate-promise c = search needs

@@ -2,9 +2,6 @@ use Rattle.remarks.specs.Said.{refusedOf}
 use borrow.Author.Needs.{needs}
 use Rattle.remarks.proofs.refused.Statement.{statement}
 use Rattle.remarks.proofs.refused.Tie as tie
-use Rattle.remarks.proofs.put_meaning.Reads as put-meaning-reads
-use Rattle.words.proofs.put.Reads as put-reads
-use Rattle.words.proofs.put_figure.Reads as put-figure-reads
 
 slice-aggregate-put : tie.Need-slice-aggregate-put
 slice-aggregate-put c = search needs

@@ -4,7 +4,6 @@ use Rattle.square_pgm.proofs.Laws.{held-all}
 use borrow.Author.Needs.{needs}
 use Rattle.square_pgm.proofs.put_sides.Statement.{statement}
 use Rattle.square_pgm.proofs.put_sides.Tie as tie
-use Rattle.words.proofs.put.Reads as put-reads
 
 slice-aggregate-put : tie.Need-slice-aggregate-put
 slice-aggregate-put c = search needs

@@ -4,9 +4,6 @@ use Rattle.square_pgm.specs.Text.{headed}
 use borrow.Author.Needs.{needs}
 use Rattle.square_pgm.proofs.write_header.Statement.{statement}
 use Rattle.square_pgm.proofs.write_header.Tie as tie
-use Rattle.square_pgm.proofs.is_held.Reads as is-held-reads
-use Rattle.square_pgm.proofs.put_sides.Reads as put-sides-reads
-use Rattle.words.proofs.put.Reads as put-reads
 
 is-held-requires : tie.Need-is-held-requires
 is-held-requires c κs = search needs
