@@ -5,15 +5,14 @@ use Prim.Native.Nat.{ℕ, _*_, _/_, _%_, _^_, _<_}
 use native.Mathlib.Omega.{arith}
 use lib.Dec.{leb, eqb}
 use borrow.Author.Tests.{eq-eqb, ne-eqb, eqb-true, eqb-false, lt-leb, leb-true}
+use Rattle.paper.specs.Lists.{pick}
 use Rattle.paper.specs.Sizes.{sizeIn}
-use lib.ListN.{take}
-use Rattle.paper.specs.Block.{payloadStart, payloadBits, labelOf, numberOf, sameBytes}
-use Rattle.paper.specs.Record.{wholeBlocks, blockAt}
+use Rattle.paper.specs.Block.{payloadStart, payloadBits}
 use mathlib.Core.List.{List}
 use Rattle.pgm.specs.Ascii.{ascii}
-use Rattle.words.specs.Line.{Line, on, _puts_, figure}
+use Rattle.words.specs.Line.{on}
 use Rattle.words.proofs.Laws.{Inside, puts-inside}
-use Rattle.verdict.specs.Verdict.{sideOf, awaits, promiseOf}
+use Rattle.verdict.specs.Verdict.{sideOf, awaits, of255, promiseOf}
 
 -- no other k is in its range
 pub no-side : (k : ℕ) → (k ≡ 3 → ⊥) → (k ≡ 4 → ⊥) → (k ≡ 5 → ⊥) → (k ≡ 6 → ⊥) → (k ≡ 7 → ⊥) → (k ≡ 8 → ⊥) → 0 ≡ sideOf k
@@ -44,6 +43,10 @@ module _ (blocks bits p : ℕ) where
         go : (t : Bool) → eqb (bits % payloadBits payloadStart) 0 ≡ t → eqb (bits % payloadBits payloadStart) 0 ≡ eqb bits (payloadBits payloadStart * blocks)
         go true e = rw (e, eq-eqb bits (payloadBits payloadStart * blocks) (omega (arith, h, eqb-true (bits % payloadBits payloadStart) 0 e)))
         go false e = rw (e, ne-eqb bits (payloadBits payloadStart * blocks) (λ f. eqb-false (bits % payloadBits payloadStart) 0 e (omega (arith, f))))
+
+pub of255-is : (blocks : ℕ) → of255 blocks ≡ pick (leb blocks 1) (ascii " of 255") (ascii " of 255, if of one shot")
+unfolding of255
+of255-is blocks = refl
 
 -- ---- what is said ends within its room, so that it can be lent on
 pub promise-inside : (bytes label : List ℕ) (L p blocks : ℕ) → Inside (promiseOf label L p blocks (on bytes 0))

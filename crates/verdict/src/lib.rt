@@ -9,6 +9,7 @@ ghost use Rattle.words.specs.Line.{on, _puts_};
 ghost use Rattle.verdict.specs.Verdict.{word, sideOf, titled, awaits, plural, expected, counted, oneShot, worth, planes, reportOf, of255, promiseOf};
 use block::PAYLOAD_BITS;
 use words::put;
+use words::put_either;
 use words::put_figure;
 
 // Only a picture with no unfinished plane is whole.
@@ -22,10 +23,7 @@ fn is_whole(unfinished: u32) -> bool
 fn put_word(unfinished: u32, line: &mut [u8], at: usize) -> usize
     ensures { λ r. ⌜ on (now (line .entry)) at puts word unfinished ≡ on (now (line .exit)) r ⌝ }
 {
-    if is_whole(unfinished) {
-        return put(b"WHOLE", line, at);
-    }
-    put(b"CUT", line, at)
+    put_either(is_whole(unfinished), b"WHOLE", b"CUT", line, at)
 }
 
 // S, and 0 where k is out of its range.
@@ -66,41 +64,33 @@ fn awaits_more(blocks: usize, bits: usize, unfinished: u32) -> bool
     bits % PAYLOAD_BITS == 0
 }
 
-fn put_plural(blocks: usize, line: &mut [u8], at: usize) -> usize
-    ensures { λ r. ⌜ on (now (line .entry)) at puts plural blocks ≡ on (now (line .exit)) r ⌝ }
-{
-    if blocks == 1 {
-        return put(b" block, ", line, at);
-    }
-    put(b" blocks, ", line, at)
-}
-
-fn put_expected(more: bool, line: &mut [u8], at: usize) -> usize
-    ensures { λ r. ⌜ on (now (line .entry)) at puts expected more ≡ on (now (line .exit)) r ⌝ }
-{
-    if more {
-        return put(b"more expected\n", line, at);
-    }
-    put(b"no more expected\n", line, at)
-}
-
 // The blocks that were kept, and whether more were expected.
 fn put_blocks(blocks: usize, bits: usize, unfinished: u32, line: &mut [u8], at: usize) -> usize
     ensures { λ r. ⌜ counted blocks bits unfinished (on (now (line .entry)) at) ≡ on (now (line .exit)) r ⌝ }
 {
     let number = put_figure(b": ", blocks as u64, line, at);
-    let counted = put_plural(blocks, line, number);
-    put_expected(awaits_more(blocks, bits, unfinished), line, counted)
+    let counted = put_either(blocks == 1, b" block, ", b" blocks, ", line, number);
+    let more = awaits_more(blocks, bits, unfinished);
+    put_either(
+        more,
+        b"more expected\n",
+        b"no more expected\n",
+        line,
+        counted,
+    )
 }
 
 // The condition of every promise: the theorems are about one coding.
 fn put_one_shot(blocks: usize, line: &mut [u8], at: usize) -> usize
     ensures { λ r. ⌜ on (now (line .entry)) at puts oneShot blocks ≡ on (now (line .exit)) r ⌝ }
 {
-    if blocks <= 1 {
-        return put(b"\n", line, at);
-    }
-    put(b", if its blocks are of one shot\n", line, at)
+    put_either(
+        blocks <= 1,
+        b"\n",
+        b", if its blocks are of one shot\n",
+        line,
+        at,
+    )
 }
 
 // How far the greys can be off.
@@ -173,15 +163,6 @@ pub fn report(
     put(ended, line, depth)
 }
 
-fn put_most(blocks: usize, line: &mut [u8], at: usize) -> usize
-    ensures { λ r. ⌜ on (now (line .entry)) at puts of255 blocks ≡ on (now (line .exit)) r ⌝ }
-{
-    if blocks <= 1 {
-        return put(b" of 255", line, at);
-    }
-    put(b" of 255, if of one shot", line, at)
-}
-
 // The promise as it stands in the picture's own file: label, verdict, p and the largest grey error.
 pub fn promise(label: &[u8], levels: u32, unfinished: u32, blocks: usize, line: &mut [u8]) -> usize
     ensures { λ r. ⌜ promiseOf (now (label .entry)) levels unfinished blocks (on (now (line .entry)) 0) ≡ on (now (line .exit)) r ⌝ }
@@ -193,5 +174,11 @@ pub fn promise(label: &[u8], levels: u32, unfinished: u32, blocks: usize, line: 
     let verdict = put_word(unfinished, line, blank);
     let left = put_figure(b", p = ", unfinished as u64, line, verdict);
     let most = put_figure(b", no grey off by more than ", limit as u64, line, left);
-    put_most(blocks, line, most)
+    put_either(
+        blocks <= 1,
+        b" of 255",
+        b" of 255, if of one shot",
+        line,
+        most,
+    )
 }

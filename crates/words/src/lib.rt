@@ -1,5 +1,6 @@
 // A line of text, written into lent room piece by piece: texts, and numbers in decimal.
 ghost use mathlib.Core.Path.{_≡_};
+ghost use Rattle.paper.specs.Lists.{pick};
 ghost use Rattle.words.specs.Line.{on, _puts_, figure};
 
 // `text` at place `at` of the line, if there is room for all of it; the place behind it.
@@ -30,4 +31,14 @@ pub fn put_figure(text: &[u8], number: u64, line: &mut [u8], at: usize) -> usize
 {
     let next = put(text, line, at);
     put_number(number, line, next)
+}
+
+// One of two texts.
+pub fn put_either(first: bool, one: &[u8], other: &[u8], line: &mut [u8], at: usize) -> usize
+    ensures { λ r. ⌜ on (now (line .entry)) at puts pick first (now (one .entry)) (now (other .entry)) ≡ on (now (line .exit)) r ⌝ }
+{
+    if first {
+        return put(one, line, at);
+    }
+    put(other, line, at)
 }

@@ -1,5 +1,5 @@
 use Rattle.verdict.specs.Verdict.{promiseOf}
-use Rattle.verdict.proofs.Laws.{promise-inside}
+use Rattle.verdict.proofs.Laws.{promise-inside, of255-is}
 use Rattle.words.proofs.Laws.{and-inside}
 use borrow.Author.Needs.{needs}
 use Rattle.verdict.proofs.promise.Statement.{statement}
@@ -35,8 +35,14 @@ cast-put-figure c = search needs
 put-figure-requires-2 : tie.Need-put-figure-requires-2
 put-figure-requires-2 c κs = search needs
 
-put-most-requires : tie.Need-put-most-requires
-put-most-requires c κs = search needs
+slice-aggregate-put-either : tie.Need-slice-aggregate-put-either
+slice-aggregate-put-either c = search needs
+
+slice-aggregate-put-either-2 : tie.Need-slice-aggregate-put-either-2
+slice-aggregate-put-either-2 c = search needs
+
+put-either-requires : tie.Need-put-either-requires
+put-either-requires c κs = search needs
 
 same-length : tie.Need-same-length
 same-length c = search needs
@@ -44,7 +50,7 @@ same-length c = search needs
 returns : tie.Need-returns
 unfolding promiseOf
 returns c =
-    and-inside _ _ _ (promise-inside _ _ _ _ _) (rw (← c .before .before .before .before .before .before .before .before .before .before .before .before .before .before .before .before .before .before .before .before .before .before .before .before .before .before .before .grey-limit .ensures, c .before .before .before .before .before .before .before .before .before .before .before .before .before .before .before .before .before .before .before .before .before .before .before .before .before .put .ensures, c .before .before .before .before .before .before .before .before .before .before .before .before .before .before .before .before .before .before .before .before .put2 .ensures, c .before .before .before .before .before .before .before .before .before .before .before .before .before .before .before .before .put-word .ensures, c .before .before .before .before .before .before .before .before .before .before .before .put-figure .ensures, c .before .before .before .before .before .before .put-figure2 .ensures) (c .before .before .put-most .ensures))
+    and-inside _ _ _ (promise-inside _ _ _ _ _) (rw (← c .before .before .before .before .before .before .before .before .before .before .before .before .before .before .before .before .before .before .before .before .before .before .before .before .before .before .before .before .before .grey-limit .ensures, c .before .before .before .before .before .before .before .before .before .before .before .before .before .before .before .before .before .before .before .before .before .before .before .before .before .before .before .put .ensures, c .before .before .before .before .before .before .before .before .before .before .before .before .before .before .before .before .before .before .before .before .before .before .put2 .ensures, c .before .before .before .before .before .before .before .before .before .before .before .before .before .before .before .before .before .before .put-word .ensures, c .before .before .before .before .before .before .before .before .before .before .before .before .before .put-figure .ensures, c .before .before .before .before .before .before .before .before .put-figure2 .ensures, of255-is _) (c .before .before .put-either .ensures))
 
 pub promise-spec : {M : Type 1} → statement M
 promise-spec =
@@ -60,6 +66,8 @@ promise-spec =
     slice-aggregate-put-figure-2
     cast-put-figure
     put-figure-requires-2
-    put-most-requires
+    slice-aggregate-put-either
+    slice-aggregate-put-either-2
+    put-either-requires
     same-length
     returns)

@@ -1,4 +1,4 @@
-use Rattle.verdict.specs.Verdict.{counted}
+use Rattle.verdict.specs.Verdict.{counted, expected, plural}
 use borrow.Author.Needs.{needs}
 use Rattle.verdict.proofs.put_blocks.Statement.{statement}
 use Rattle.verdict.proofs.put_blocks.Tie as tie
@@ -9,22 +9,34 @@ slice-aggregate-put-figure c = search needs
 put-figure-requires : tie.Need-put-figure-requires
 put-figure-requires c κs = search needs
 
-put-plural-requires : tie.Need-put-plural-requires
-put-plural-requires c κs = search needs
+slice-aggregate-put-either : tie.Need-slice-aggregate-put-either
+slice-aggregate-put-either c = search needs
+
+slice-aggregate-put-either-2 : tie.Need-slice-aggregate-put-either-2
+slice-aggregate-put-either-2 c = search needs
+
+put-either-requires : tie.Need-put-either-requires
+put-either-requires c κs = search needs
 
 awaits-more-requires : tie.Need-awaits-more-requires
 awaits-more-requires c κs = search needs
 
-put-expected-requires : tie.Need-put-expected-requires
-put-expected-requires c κs = search needs
+slice-aggregate-put-either-3 : tie.Need-slice-aggregate-put-either-3
+slice-aggregate-put-either-3 c = search needs
+
+slice-aggregate-put-either-4 : tie.Need-slice-aggregate-put-either-4
+slice-aggregate-put-either-4 c = search needs
+
+put-either-requires-2 : tie.Need-put-either-requires-2
+put-either-requires-2 c κs = search needs
 
 same-length : tie.Need-same-length
 same-length c = search needs
 
 returns : tie.Need-returns
-unfolding counted
+unfolding counted plural expected
 returns c =
-    rw (c .before .before .before .before .before .before .before .before .before .before .before .put-figure .ensures, c .before .before .before .before .before .before .before .put-plural .ensures, ← c .before .before .before .before .awaits-more .ensures) (c .before .before .put-expected .ensures)
+    rw (c .before .before .before .before .before .before .before .before .before .before .before .before .before .before .before .put-figure .ensures, c .before .before .before .before .before .before .before .before .before .put-either .ensures, ← c .before .before .before .before .before .before .awaits-more .ensures) (c .before .before .put-either2 .ensures)
 
 pub put-blocks-spec : {M : Type 1} → statement M
 put-blocks-spec =
@@ -32,8 +44,12 @@ put-blocks-spec =
     (tie.spec
     slice-aggregate-put-figure
     put-figure-requires
-    put-plural-requires
+    slice-aggregate-put-either
+    slice-aggregate-put-either-2
+    put-either-requires
     awaits-more-requires
-    put-expected-requires
+    slice-aggregate-put-either-3
+    slice-aggregate-put-either-4
+    put-either-requires-2
     same-length
     returns)

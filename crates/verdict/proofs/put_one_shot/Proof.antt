@@ -1,14 +1,16 @@
 use Rattle.verdict.specs.Verdict.{oneShot}
-use borrow.Author.Tests.{le-leb, lt-leb}
 use borrow.Author.Needs.{needs}
 use Rattle.verdict.proofs.put_one_shot.Statement.{statement}
 use Rattle.verdict.proofs.put_one_shot.Tie as tie
 
-slice-aggregate-put : tie.Need-slice-aggregate-put
-slice-aggregate-put c = search needs
+slice-aggregate-put-either : tie.Need-slice-aggregate-put-either
+slice-aggregate-put-either c = search needs
 
-put-requires : tie.Need-put-requires
-put-requires c κs = search needs
+slice-aggregate-put-either-2 : tie.Need-slice-aggregate-put-either-2
+slice-aggregate-put-either-2 c = search needs
+
+put-either-requires : tie.Need-put-either-requires
+put-either-requires c κs = search needs
 
 same-length : tie.Need-same-length
 same-length c = search needs
@@ -16,31 +18,14 @@ same-length c = search needs
 returns : tie.Need-returns
 unfolding oneShot
 returns c =
-    rw (le-leb _ 1 (c .before .before .before .before .before .if1 .taken)) (c .before .before .put .ensures)
-
-slice-aggregate-put-2 : tie.Need-slice-aggregate-put-2
-slice-aggregate-put-2 c = search needs
-
-put-requires-2 : tie.Need-put-requires-2
-put-requires-2 c κs = search needs
-
-same-length-2 : tie.Need-same-length-2
-same-length-2 c = search needs
-
-returns-2 : tie.Need-returns-2
-unfolding oneShot
-returns-2 c =
-    rw (lt-leb _ 1 (c .before .before .before .before .before .if1 .left)) (c .before .before .put2 .ensures)
+    c .before .before .put-either .ensures
 
 pub put-one-shot-spec : {M : Type 1} → statement M
 put-one-shot-spec =
     tie.close
     (tie.spec
-    slice-aggregate-put
-    put-requires
+    slice-aggregate-put-either
+    slice-aggregate-put-either-2
+    put-either-requires
     same-length
-    returns
-    slice-aggregate-put-2
-    put-requires-2
-    same-length-2
-    returns-2)
+    returns)
