@@ -3,8 +3,10 @@ use Prim.Native.Nat.{ℕ, zero, suc, _+_, _*_, _/_, _%_, _^_, _<_, _≤_, max}
 use mathlib.Core.Path.{_≡_, refl, ap, _∙_, sym}
 use native.Mathlib.Nat.{pow-suc}
 use native.Mathlib.Omega.{arith}
+use lib.Dec.{lit≤}
 use lib.Pow.{pow-add}
 use Rattle.paper.specs.Places.{interleaved, rowOf, columnOf}
+use Rattle.places.proofs.Moved.{moved-below, row-moved, column-moved}
 
 -- ---- bounds
 pub interleaved-below : (j r c : ℕ) → interleaved j r c < 4 ^ j
@@ -13,14 +15,10 @@ interleaved-below zero r c = omega arith
 interleaved-below (suc j) r c = omega (arith, pow-suc 4 j, interleaved-below j (r / 2) (c / 2))
 
 pub row-below : (j z : ℕ) → rowOf j z < 2 ^ j
-unfolding rowOf
-row-below zero z = omega arith
-row-below (suc j) z = omega (arith, pow-suc 2 j, row-below j (z / 4))
+row-below j z = rw (row-moved j z) (moved-below 4 2 j (z / 2) (lit≤ tt))
 
 pub column-below : (j z : ℕ) → columnOf j z < 2 ^ j
-unfolding columnOf
-column-below zero z = omega arith
-column-below (suc j) z = omega (arith, pow-suc 2 j, column-below j (z / 4))
+column-below j z = rw (column-moved j z) (moved-below 4 2 j z (lit≤ tt))
 
 -- ---- there and back
 pub row-back : (j r c : ℕ) → r < 2 ^ j → rowOf j (interleaved j r c) ≡ r

@@ -1,11 +1,11 @@
 // Raster places and Z places are different kinds of number. The two conversions here are the only passage between them:
 // nobody else can open a place or make one from the other. Greys are reached by raster places, wavelet numbers by Z places.
 ghost use mathlib.Core.Path.{_≡_};
-ghost use Prim.Native.Nat.{_^_, _<_, _≤_};
+ghost use Prim.Native.Nat.{_+_, _*_, _^_, _<_, _≤_};
 ghost use lib.ListN.{length, getD, set};
 ghost use Rattle.paper.specs.Sizes.{mostSize};
 ghost use Rattle.paper.specs.Lists.{at};
-ghost use Rattle.paper.specs.Places.{interleaved, zOf, rasterOf};
+ghost use Rattle.paper.specs.Places.{interleaved, columnOf, rowOf, zOf, rasterOf};
 
 // A place counted row by row.
 pub struct Raster(usize);
@@ -35,24 +35,44 @@ pub fn side(k: u32) -> usize
     1usize << k
 }
 
-// The Z place of row r and column c, in a square of side 2 ^ k.
+// One more than the largest number in half a word.
+const HALF: usize = 0x1_0000_0000;
+
+// The lowest k bits of a column, each moved to twice its place, in the low half of a word, and those of a row in the high half. Bits
+// that have far to go move by eight, then by four, two and one. The masks hold ten bits a coordinate.
+fn spread(k: u32, r: usize, c: usize) -> usize
+    requires { ⌜ k ≤ mostSize ⌝ }
+    ensures { λ w. ⌜ w ≡ interleaved k 0 c + interleaved k 0 r * 2 ^ 32 ⌝ }
+{
+    let s = side(k);
+    let w = c % s + r % s * HALF;
+    let w = (w | w << 8) & 0x300FF_000300FF;
+    let w = (w | w << 4) & 0x30F0F_00030F0F;
+    let w = (w | w << 2) & 0x33333_00033333;
+    (w | w << 1) & 0x55555_00055555
+}
+
+// The column of a Z place in the low half of a word, its row in the high half: the same steps, back.
+fn squeeze(k: u32, z: usize) -> usize
+    requires { ⌜ k ≤ mostSize ⌝ }
+    ensures { λ w. ⌜ w ≡ columnOf k z + rowOf k z * 2 ^ 32 ⌝ }
+{
+    let s = side(k);
+    let area = s * s;
+    let w = (z % area + z / 2 % area * HALF) & 0x55555_00055555;
+    let w = (w | w >> 1) & 0x33333_00033333;
+    let w = (w | w >> 2) & 0x30F0F_00030F0F;
+    let w = (w | w >> 4) & 0x300FF_000300FF;
+    (w | w >> 8) & 0x3FF_000003FF
+}
+
+// The Z place of row r and column c, in a square of side 2 ^ k. Each is spread for itself: along a line one of the two stays, and
+// the compiler spreads that one once.
 pub fn z_of(k: u32, r: usize, c: usize) -> ZPlace
     requires { ⌜ k ≤ mostSize ⌝ }
     ensures { λ z. ⌜ z .0 ≡ interleaved k r c ⌝ }
 {
-    let mut row = r;
-    let mut column = c;
-    let mut z: usize = 0;
-    let mut w: usize = 1;
-    let mut i: u32 = 0;
-    while i < k {
-        z += (column % 2 + 2 * (row % 2)) * w;
-        row = row / 2;
-        column = column / 2;
-        w = w * 4;
-        i += 1;
-    }
-    ZPlace(z)
+    ZPlace(spread(k, 0, c) + 2 * spread(k, 0, r))
 }
 
 // The Z place of a raster place.
@@ -60,9 +80,9 @@ pub fn to_z(k: u32, place: Raster) -> ZPlace
     requires { ⌜ k ≤ mostSize ⌝ }
     ensures { λ z. ⌜ z .0 ≡ zOf k (place .0) ⌝ }
 {
-    let s = side(k);
     let p = place.0;
-    z_of(k, p / s, p % s)
+    let w = spread(k, p / side(k), p);
+    ZPlace(w % HALF + 2 * (w / HALF))
 }
 
 // The raster place of a Z place.
@@ -70,20 +90,8 @@ pub fn from_z(k: u32, place: ZPlace) -> Raster
     requires { ⌜ k ≤ mostSize ⌝ }
     ensures { λ p. ⌜ p .0 ≡ rasterOf k (place .0) ⌝ }
 {
-    let s = side(k);
-    let mut z = place.0;
-    let mut r: usize = 0;
-    let mut c: usize = 0;
-    let mut w: usize = 1;
-    let mut i: u32 = 0;
-    while i < k {
-        c += z % 2 * w;
-        r += z / 2 % 2 * w;
-        z = z / 4;
-        w = w * 2;
-        i += 1;
-    }
-    Raster(r * s + c)
+    let w = squeeze(k, place.0);
+    Raster(w / HALF * side(k) + w % HALF)
 }
 
 // The grey at a raster place.
