@@ -1,5 +1,5 @@
--- `places::squeeze` meets its contract: its first mask and its steps, whatever their masks, tried on each digit of base 4 at each of ten
--- places in either half of a word.
+-- `places::squeeze` meets its contract: its first mask and its steps, whatever their masks, tried on each digit of base 4 at each of
+-- ten places in either half of a word.
 use Prim.Native.Nat.{ℕ, _+_, _*_, _/_, _%_, _^_, _<_, _≤_}
 use mathlib.Core.Path.{_≡_}
 use mathlib.Core.List.{List, [], _∷_}
