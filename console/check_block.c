@@ -3,8 +3,9 @@
 #include <string.h>
 
 #include "label.h"
+#include "seal.h"
 
-enum { COUNT = 14, PAYLOAD = 16, CHECKS = 508 };
+enum { COUNT = 14, PAYLOAD = 16 };
 
 static uint8_t block[LABEL_BLOCK_BYTES + 1];
 
@@ -19,23 +20,6 @@ static void start(void)
     memcpy(block + CHECKS, checks, sizeof checks);
 }
 
-/* A and B of what now stands in bytes 0 to 507, so that a wrong field is all that is wrong. */
-static void seal(void)
-{
-    unsigned long a = 0, b = 0;
-
-    for (int i = 0; i < CHECKS; i++) {
-        a += block[i];
-        b += (unsigned long)(i + 1) * block[i];
-    }
-    a %= 65521;
-    b %= 65521;
-    block[CHECKS] = (uint8_t)(a / 256);
-    block[CHECKS + 1] = (uint8_t)(a % 256);
-    block[CHECKS + 2] = (uint8_t)(b / 256);
-    block[CHECKS + 3] = (uint8_t)(b % 256);
-}
-
 static void say(const char *what, size_t count)
 {
     printf("%s: %u\n", what, (unsigned)label_block_check(block, count));
@@ -47,7 +31,7 @@ static void changed(const char *what, int place, int byte, int sealed)
     start();
     block[place] = (uint8_t)byte;
     if (sealed)
-        seal();
+        seal(block);
     say(what, LABEL_BLOCK_BYTES);
 }
 
@@ -58,7 +42,7 @@ static void counted(const char *what, int count, int place, int byte)
     block[COUNT] = (uint8_t)(count / 256);
     block[COUNT + 1] = (uint8_t)(count % 256);
     block[place] = (uint8_t)byte;
-    seal();
+    seal(block);
     say(what, LABEL_BLOCK_BYTES);
 }
 
@@ -76,7 +60,7 @@ int main(void)
     changed("edition damaged, its checks with it", 0, 2, 0);
     start();
     block[40] = 1;
-    seal();
+    seal(block);
     block[40] = 0;
     block[41] = 1;
     say("A right and B wrong", 512);
@@ -88,7 +72,8 @@ int main(void)
     changed("k 3, L 3", 2, 3, 1);
     changed("n 18", 3, 18, 1);
     changed("n 19", 3, 19, 1);
-    changed("a letter in the label", 8, 'O', 1);
+    changed("a capital in the label", 8, 'O', 1);
+    changed("a small letter in the label", 8, 'o', 1);
     changed("a space before the label", 4, ' ', 1);
     changed("block number 7, which is not judged", 13, 7, 1);
 

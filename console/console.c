@@ -3,7 +3,7 @@
  * judged alone, by label_block_check. With a label the verdict is the reader's own, label_read's: which blocks it keeps,
  * which block ended the run and why, and what stands behind it. The record comes on standard input.
  *
- * What it prints of the input is numbers and labels, and labels only where they are eight digits.
+ * What it prints of the input is numbers and labels, and labels only where they are eight characters, 0-9 or A-Z.
  */
 #include <stdio.h>
 #include <stdlib.h>
@@ -23,9 +23,9 @@ static const char help[] =
     "\n"
     "Judges the blocks of a record, 512 bytes each; nothing is changed.\n"
     "\n"
-    "  LABEL   the label wanted: eight digits, leading zeros count. Order and label\n"
-    "          are judged too then, as decode judges them. Without it each block is\n"
-    "          judged alone.\n"
+    "  LABEL   the label wanted: eight characters, 0-9 or A-Z; leading zeros count.\n"
+    "          Order and label are judged too then, as decode judges them. Without\n"
+    "          it each block is judged alone.\n"
     "  --help, --version\n"
     "\n"
     "The first word is the verdict:\n"
@@ -53,13 +53,13 @@ static unsigned pair_at(const uint8_t *block, size_t place)
     return block[place] * 256u + block[place + 1];
 }
 
-/* The label of a block that passed, as it stands there: eight digits. */
+/* The label of a block that passed, as it stands there: eight characters, each 0 to 9 or A to Z. */
 static const char *label_of(const uint8_t *block)
 {
-    static char digits[9];
+    static char characters[9];
 
-    memcpy(digits, block + 4, 8);
-    return digits;
+    memcpy(characters, block + 4, 8);
+    return characters;
 }
 
 static const char *s(size_t count)
@@ -187,7 +187,7 @@ static int judge_record(const char *label)
         return NOT_WELL;
     }
     if (kept.refusal == LABEL_BAD_LABEL) {
-        printf("BAD: the label given is not eight digits; leading zeros count (7)\n");
+        printf("BAD: a label is eight characters, 0-9 or A-Z; leading zeros count (7)\n");
         return NOT_WELL;
     }
 

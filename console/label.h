@@ -23,8 +23,10 @@
  *     A picture has S x S greys of one byte, S = 2^k, k from 3 to 8, row by row. Its S x S wavelet numbers,
  *     of 32 bits with sign, are within +-262143 and stand in Z order: the place of row r, column c
  *     interleaves their bits, the lowest bit of c lowest (row 6, column 7 is place 61). L, the levels, is
- *     from 1 to the smaller of 5 and k - 1; n, the bit planes, at most 18. A label is eight ASCII digits and
- *     never a number: leading zeros count.
+ *     from 1 to the smaller of 5 and k - 1; n, the bit planes, at most 18.
+ *
+ *     A label is eight ASCII characters, each 0 to 9 or A to Z. It is never a number: leading zeros count.
+ *     Small letters and spaces are refused.
  *
  *     Nothing is allocated and nothing is kept between calls; a call takes at most LABEL_STACK_BYTES of
  *     stack. A slice is a pointer and a count of elements. No slice that is written to overlaps another (two
@@ -52,7 +54,7 @@
  *      6  LABEL_BAD_ROOM    b beyond the bytes lent; label_write: b beyond what n planes can have, or room
  *                           under 512 bytes a block; label_read: under 512 bytes, or room under 492 for each
  *                           whole block lent; label_block_check: not 512 bytes
- *      7  LABEL_BAD_LABEL   the label given is not eight digits
+ *      7  LABEL_BAD_LABEL   the label given is not eight characters, 0-9 or A-Z
  *      8  LABEL_BAD_CHECK   a block's check A or B is wrong: it is damaged
  *      9  LABEL_BAD_FIELD   a block's edition, k, L, n, label, payload count or an unused bit is wrong
  *     10  LABEL_BAD_TURN    a block's number is out of turn, its bytes 0 to 11 are unlike block 0's, or its
@@ -116,9 +118,9 @@ extern "C" {
 #endif
 
 #define LABEL_VERSION_MAJOR 0
-#define LABEL_VERSION_MINOR 2
+#define LABEL_VERSION_MINOR 3
 #define LABEL_VERSION_PATCH 0
-#define LABEL_VERSION "0.2.0"
+#define LABEL_VERSION "0.3.0"
 
 #define LABEL_BLOCK_BYTES 512
 #define LABEL_PAYLOAD_BYTES 492

@@ -7,8 +7,9 @@
 #include <string.h>
 
 #include "label.h"
+#include "seal.h"
 
-enum { K = 7, PLACES = LABEL_PLACES(K), BLOCKS = LABEL_MOST_BLOCKS(K, LABEL_MOST_PLANES), CHECKS = 508 };
+enum { K = 7, PLACES = LABEL_PLACES(K), BLOCKS = LABEL_MOST_BLOCKS(K, LABEL_MOST_PLANES) };
 
 static uint8_t picture[PLACES], bytes[LABEL_MOST_BYTES(K, LABEL_MOST_PLANES)], record[BLOCKS * LABEL_BLOCK_BYTES];
 static int32_t numbers[PLACES];
@@ -37,21 +38,6 @@ static void make(uint32_t k, const char *label, size_t limit)
     if (coded.refusal || made.refusal)
         fail("label_code or label_write refused");
     blocks = made.blocks;
-}
-
-/* A and B of what now stands in a block, so that a wrong field is all that is wrong. */
-static void seal(uint8_t *block)
-{
-    unsigned long a = 0, b = 0;
-
-    for (int i = 0; i < CHECKS; i++) {
-        a += block[i];
-        b += (unsigned long)(i + 1) * block[i];
-    }
-    block[CHECKS] = (uint8_t)(a % 65521 / 256);
-    block[CHECKS + 1] = (uint8_t)(a % 65521 % 256);
-    block[CHECKS + 2] = (uint8_t)(b % 65521 / 256);
-    block[CHECKS + 3] = (uint8_t)(b % 65521 % 256);
 }
 
 static uint8_t *block_at(size_t i)
@@ -146,6 +132,13 @@ int main(int argc, char **argv)
     block_at(0)[0] = 2;
     seal(block_at(0));
     put_all("block-0-of-edition-2", "wb");
+
+    /* a label with a media type; then block 2 has it in small letters, which is no label, and its checks are right */
+    make(6, "0417AAL6", SIZE_MAX);
+    put_all("media", "wb");
+    memcpy(block_at(2) + 4, "0417aal6", 8);
+    seal(block_at(2));
+    put_all("block-2-in-small-letters", "wb");
 
     /* many blocks, all full and in turn */
     make(6, "00000417", SIZE_MAX);

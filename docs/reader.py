@@ -2,9 +2,9 @@
 
 usage: python3 reader.py LABEL RECORD PICTURE
 
-LABEL is eight digits, leading zeros counted, RECORD the file of the record and
-PICTURE a new file for the picture (binary PGM). The first word said is WHOLE or
-CUT (status 0) or REFUSED (status 1, no picture); wrong usage has status 2.
+LABEL is eight characters, 0-9 or A-Z, leading zeros counted, RECORD the file of
+the record, PICTURE a new file for the picture (binary PGM). The first word said
+is WHOLE or CUT (status 0) or REFUSED (status 1, no picture); wrong usage: 2.
 
 A record is a grey picture of side 8 to 256 in a run of 512-byte blocks. Bits of
 its wavelet numbers stand there, the most significant first. So the blocks that
@@ -17,24 +17,25 @@ unnoticed in edition 1, read here; edition 2's mount number (to come) closes it.
 """
 import os, sys
 
+def is_label(text): return len(text) == 8 and all('0' <= c <= '9' or 'A' <= c <= 'Z' for c in text)
+
 def blocks_kept(record, asked):
     """Which blocks a reader keeps: their bits, how many they are, what is wrong with the next."""
     bits, kept, bad = [], 0, []
     while not bad and len(bits) == 3936 * kept and len(record) >= 512 * (kept + 1):
         block = record[512 * kept:512 * (kept + 1)]
-        edition, k, L, n, label = block[0], block[1], block[2], block[3], block[4:12]
+        (edition, k, L, n), label = block[:4], block[4:12].decode('latin-1')
         number, count, A, B = [256 * block[i] + block[i + 1] for i in (12, 14, 508, 510)]
         payload = [block[i // 8] >> (7 - i % 8) & 1 for i in range(8 * 16, 8 * 508)]
         weighed = [(i + 1) * block[i] for i in range(508)]
         if A != sum(block[:508]) % 65521 or B != sum(weighed) % 65521:
             bad = ['damaged, a check is wrong (8)']
         elif (edition != 1 or not 3 <= k <= 8 or not 1 <= L <= min(5, k - 1) or n > 18
-              or not label.isdigit() or count > 3936 or any(payload[count:])):
+              or not is_label(label) or count > 3936 or any(payload[count:])):
             bad = ['no block of edition 1, a field is wrong (9)']
         else:
             if number != kept: bad += ['    its number is %d and not %d' % (number, kept)]
-            if label != asked:
-                bad += ['    its label is %s and not %s' % (label.decode(), asked.decode())]
+            if label != asked: bad += ['    its label is %s and not %s' % (label, asked)]
             if block[:4] != record[:4]: bad += ["    its side, levels or planes are not block 0's"]
             turn = 'next block of this record' if kept else 'start of the record asked for'
             if bad: bad = ['not the %s (10)' % turn] + bad
@@ -82,35 +83,34 @@ def greys(x, k, L):
 
 def opened(label, record):
     """What is said of a record, and its picture: none if it is refused."""
-    name, short = label.decode(), 'REFUSED: no whole block came, only %d of 512 bytes (6)'
-    if len(record) < 512: return [short % len(record)], b''
-    if len(label) != 8 or not label.isdigit():
-        return ['REFUSED: the label given is not eight digits; leading zeros count (7)'], b''
+    short = 'REFUSED: no whole block came, only %d of 512 bytes (6)' % len(record)
+    no_label = 'REFUSED: a label is eight characters, 0-9 or A-Z; leading zeros count (7)'
+    if len(record) < 512: return [short], b''
+    if not is_label(label): return [no_label], b''
     bits, kept, bad = blocks_kept(record, label)
-    if kept == 0: return ['REFUSED %s: block 0 is %s' % (name, bad[0])] + bad[1:], b''
+    if kept == 0: return ['REFUSED %s: block 0 is %s' % (label, bad[0])] + bad[1:], b''
     k, L, n = record[1], record[2], record[3]
     numbers, p = wavelet_numbers(bits, k, L, n)
-    limit, plural = min(255, (7 * L + 1) * (2 ** p - 1)), 's' if kept > 1 else ''
+    limit, s = min(255, (7 * L + 1) * (2 ** p - 1)), 's' if kept > 1 else ''
     verdict, worth = 'CUT', 'no grey is off by more than %d of 255' % limit
     if limit == 255: worth = 'any grey may be wrong: too little is left to promise more'
     if p == 0: verdict, worth = 'WHOLE', 'every grey is right: the very picture'
     more = 'more' if p > 0 and len(bits) == 3936 * kept else 'no more'
-    said = ['%s %s, side %d: %d block%s, %s expected' % (verdict, name, 2 ** k, kept, plural, more),
+    said = ['%s %s, side %d: %d block%s, %s expected' % (verdict, label, 2 ** k, kept, s, more),
             '  ' + worth + (', if its blocks are of one shot' if kept > 1 and limit < 255 else ''),
             '  planes finished: %d of %d, levels: %d, bits: %d' % (n - p, n, L, len(bits))]
     if bad: said += ['  block %d ended the run: it is %s' % (kept, bad[0])] + bad[1:]
     header = 'P5\n# %s %s, p = %d, no grey off by more than %d of 255%s\n%d %d\n255\n' % (
-        name, verdict, p, limit, ', if of one shot' if kept > 1 else '', 2 ** k, 2 ** k)
+        label, verdict, p, limit, ', if of one shot' if kept > 1 else '', 2 ** k, 2 ** k)
     return said, header.encode() + greys(numbers, k, L)
 
 if __name__ == '__main__':
     given, text = sys.argv[1:], __doc__.strip()
-    if given == ['--version']: sys.exit(print('reader.py 0.2.0, edition 1'))
+    if given == ['--version']: sys.exit(print('reader.py 0.3.0, edition 1'))
     if given == ['--help']: sys.exit(print(text))
     if len(given) != 3 or given[0][:1] == '-': sys.exit(print(text, file=sys.stderr) or 2)
     try:
-        with open(given[1], 'rb') as file: record = file.read()
-        said, picture = opened(given[0].encode('ascii', 'replace'), record)
+        with open(given[1], 'rb') as file: said, picture = opened(given[0], file.read())
         if picture:
             file = open(given[2], 'xb')  # a file that is there already is left alone
             try:

@@ -1,14 +1,16 @@
 //! The label library against the second program where chance is not enough:
 //! every size and level, every cut of small codings, every plane count, every
-//! single-byte change of a block. Stops at the first difference.
+//! single-byte change of a block, every byte in each place of a label. Stops at
+//! the first difference.
 
 mod library;
 
+use second::block;
 use second::random::Random;
 use second::samples;
 use second::show;
 use second::sizes::{most_levels, Sizes, LARGEST_K, MOST_PLANES, SMALLEST_K};
-use second::transcript::{self, Request};
+use second::transcript::{self, Answer, Field, Request};
 use std::process::exit;
 
 /// Makes the calls on both sides and counts them.
@@ -17,11 +19,24 @@ struct Comparison {
 }
 
 impl Comparison {
-    fn same(&mut self, request: &Request) {
+    fn same(&mut self, request: &Request) -> Answer {
         self.cases += 1;
-        if transcript::answer_bytes(&library::answer(request)) != transcript::answer_bytes(&transcript::answer(request)) {
+        let answer = library::answer(request);
+        if transcript::answer_bytes(&answer) != transcript::answer_bytes(&transcript::answer(request)) {
             println!("a difference: {}", show::line(request));
             exit(1);
+        }
+        answer
+    }
+
+    /// Holds the answer, which is both sides', to what the rule gives for some of its fields: both might be wrong.
+    fn by_rule(&mut self, request: &Request, fields: &[(&str, u32)]) {
+        let answer = self.same(request);
+        for (field, number) in fields {
+            if !answer.contains(&(field, Field::Small(*number))) {
+                println!("{field} is {number} by the rule: {}", show::line(request));
+                exit(1);
+            }
         }
     }
 }
@@ -154,6 +169,52 @@ fn every_byte(comparison: &mut Comparison, random: &mut Random) {
     }
 }
 
+/// Every byte in each place of a label, which is given to the writer or the reader, or stands in a block.
+fn every_character(comparison: &mut Comparison, random: &mut Random) {
+    let (right, mut record) = (b"0417AAL6".to_vec(), vec![0; 1024]);
+    let bytes = random.bytes(600);
+    label::write(5, 2, 8, &right, &bytes, 4500, &mut record).expect("there is room for two blocks");
+    for place in 0..8 {
+        for byte in 0..=255 {
+            let mut label = right.clone();
+            label[place] = byte;
+            let is_label = (b'0'..=b'9').contains(&byte) || (b'A'..=b'Z').contains(&byte);
+            let alone = |number: u32| if is_label { 0 } else { number };
+            // A reader also holds the label given to the label in the block.
+            let both = |number: u32| match (is_label, label == right) {
+                (false, _) => number,
+                (true, false) => 10,
+                (true, true) => 0,
+            };
+            let writing = Request::RecordWriting {
+                k: 5,
+                levels: 2,
+                planes: 8,
+                label: label.clone(),
+                bytes: bytes.clone(),
+                count: 4500,
+                room: 1024,
+            };
+            comparison.by_rule(&writing, &[("refusal", alone(7))]);
+            let reading = |blocks: &[u8], label: &[u8]| Request::RecordReading {
+                blocks: blocks.to_vec(),
+                label: label.to_vec(),
+                room: 984,
+            };
+            comparison.by_rule(&reading(&record, &label), &[("refusal", both(7)), ("ended", 0)]);
+            for (at, refusal, ended) in [(0, both(9), 0), (512, 0, both(9))] {
+                let mut blocks = record.clone();
+                let block = &mut blocks[at..at + 512];
+                block[4 + place] = byte;
+                block::write_checks(block);
+                let block = block.to_vec();
+                comparison.by_rule(&Request::BlockCheck { block }, &[("refusal", alone(9))]);
+                comparison.by_rule(&reading(&blocks, &right), &[("refusal", refusal), ("ended", ended)]);
+            }
+        }
+    }
+}
+
 fn main() {
     let mut comparison = Comparison { cases: 0 };
     let mut random = Random::new(417, 0);
@@ -167,5 +228,6 @@ fn main() {
         }
     }
     every_byte(&mut comparison, &mut random);
+    every_character(&mut comparison, &mut random);
     println!("{} cases one by one, no difference", comparison.cases);
 }

@@ -23,9 +23,10 @@ const MODULUS: u64 = 65_521;
 pub type Block = [u8; LENGTH];
 pub type Heading = [u8; 12];
 
-/// Whether these bytes are eight ASCII digits.
+/// Whether these bytes are a label: eight characters, each 0 to 9 or A to Z.
 pub fn is_label(label: &[u8]) -> bool {
-    label.len() == LABEL.len() && label.iter().all(u8::is_ascii_digit)
+    let is_character = |byte: &u8| matches!(byte, b'0'..=b'9' | b'A'..=b'Z');
+    label.len() == LABEL.len() && label.iter().all(is_character)
 }
 
 /// Bytes 0 to 11 of a block with these fields, which are all in their ranges.

@@ -58,7 +58,7 @@ fn spoil_field(random: &mut Random, block: &mut Block) {
         1 => block[1] = random.pick(&[0, 1, 2, 9, 10, 0x83, 255]),
         2 => block[2] = random.pick(&[0, block[1], 6, 7, 0x81, 255]),
         3 => block[3] = random.pick(&[19, 20, 32, 0x80, 255]),
-        4 => block[LABEL.start + random.index(8)] = random.pick(b"/: \0A\xB0\xFF"),
+        4 => samples::spoil_label(random, &mut block[LABEL]),
         _ => {
             let over = random.pick(&[PAYLOAD_BITS + 1, PAYLOAD_BITS + 8, 0x8000, 0xFFFF]);
             set_field(block, COUNT, over);

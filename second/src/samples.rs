@@ -226,22 +226,66 @@ pub fn bits(random: &mut Random, sizes: Sizes) -> Bits {
     bits
 }
 
+fn letter(random: &mut Random) -> u8 {
+    b'A' + random.below(26) as u8
+}
+
+/// 0 to 9 or A to Z, the ends of both ranges often.
+fn character(random: &mut Random) -> u8 {
+    match random.below(3) {
+        0 => random.pick(b"09AZ"),
+        1 => b'0' + random.below(10) as u8,
+        _ => letter(random),
+    }
+}
+
+/// What stands in the last two places of many labels.
+const MEDIA_TYPES: [[u8; 2]; 4] = [*b"L5", *b"L6", *b"L9", *b"M8"];
+
+/// A number with its leading zeros, or with a letter in it, or characters of
+/// any kind, letters alone, one end of a range alone; often a media type.
 pub fn label(random: &mut Random) -> Vec<u8> {
     let digits = 1 + random.below(8);
     let number = random.below(10_u64.pow(digits as u32));
-    format!("{:08}", number).into_bytes()
+    let mut label = format!("{:08}", number).into_bytes();
+    match random.below(8) {
+        0 => label[random.index(8)] = letter(random),
+        1 => label.fill_with(|| character(random)),
+        2 => label.fill_with(|| letter(random)),
+        3 => label.fill(random.pick(b"09AZ")),
+        _ => {}
+    }
+    if random.one_in(3) {
+        label[6..].copy_from_slice(&random.pick(&MEDIA_TYPES));
+    }
+    label
 }
 
-/// A label that is not eight digits.
+/// Bytes that no label has: the neighbours of 0 to 9 and of A to Z, the ends of
+/// a to z and their neighbours, a space, a hyphen, the ends of all bytes, and 0
+/// and A with their highest bit set.
+const STRANGERS: &[u8] = b"/:@[`az{ -\0\xFF\xB0\xC1";
+
+/// Gives a label one byte that no label has: for a capital letter often its
+/// small form.
+pub fn spoil_label(random: &mut Random, label: &mut [u8]) {
+    let place = random.index(label.len());
+    let stranger = random.pick(STRANGERS);
+    label[place] = match label[place] {
+        capital @ b'A'..=b'Z' if random.one_in(2) => capital.to_ascii_lowercase(),
+        _ => stranger,
+    };
+}
+
+/// Bytes that are no label, by their count or by one of them.
 pub fn wrong_label(random: &mut Random) -> Vec<u8> {
     let mut label = label(random);
-    let place = random.index(label.len());
     match random.below(6) {
         0 => label.clear(),
-        1 => label.truncate(place),
+        1 => label.truncate(random.index(8)),
         2 => label.push(b'0'),
         3 => label.resize(64, b'7'),
-        _ => label[place] = random.pick(b"/: -A\0\xB0\xFF"),
+        _ => spoil_label(random, &mut label),
     }
     label
 }

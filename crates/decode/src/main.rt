@@ -15,7 +15,7 @@ use record::Kept;
 fn write_help(fd: i32) {
     pipes::write_all(
         fd,
-        b"usage: decode LABEL < record > picture.pgm\n\nMakes the picture (PGM) of a record, whole or cut anywhere, side 8 to 64.\n  LABEL  the eight digits that are expected; leading zeros count\n",
+        b"usage: decode LABEL < record > picture.pgm\n\nMakes the picture (PGM) of a record, whole or cut anywhere, side 8 to 64.\n  LABEL  the label expected: eight characters, 0-9 or A-Z; leading zeros count\n",
     );
     pipes::write_all(
         fd,
@@ -147,7 +147,7 @@ fn run(line: &mut [u8]) -> usize {
         return 0;
     }
     if fields::same_bytes(&label[..count], b"--version") {
-        pipes::write_all(STDOUT_FILENO, b"decode 0.2.0\n");
+        pipes::write_all(STDOUT_FILENO, b"decode 0.3.0\n");
         return 0;
     }
     if os::arg_count() != 2 || is_option(&label[..count]) {

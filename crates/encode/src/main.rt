@@ -17,7 +17,7 @@ use pgm::Number;
 fn write_help(fd: i32) {
     pipes::write_all(
         fd,
-        b"usage: encode LABEL LEVELS [BITS] < picture.pgm > record\n\nMakes a record of a square grey picture (binary PGM, side 8, 16, 32 or 64).\n  LABEL   eight digits, as on the cartridge; leading zeros count\n",
+        b"usage: encode LABEL LEVELS [BITS] < picture.pgm > record\n\nMakes a record of a square grey picture (binary PGM, side 8, 16, 32 or 64).\n  LABEL   eight characters, 0-9 or A-Z, as on the cartridge; leading zeros count\n",
     );
     pipes::write_all(
         fd,
@@ -200,7 +200,7 @@ fn run(line: &mut [u8]) -> usize {
         return 0;
     }
     if fields::same_bytes(&word[..count], b"--version") {
-        pipes::write_all(STDOUT_FILENO, b"encode 0.2.0\n");
+        pipes::write_all(STDOUT_FILENO, b"encode 0.3.0\n");
         return 0;
     }
     let arguments = os::arg_count();

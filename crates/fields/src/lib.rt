@@ -30,14 +30,23 @@ pub fn same_bytes(a: &[u8], b: &[u8]) -> bool
     true
 }
 
-// An ASCII digit.
+// 0 to 9 or A to Z.
 fn label_character(c: u8) -> bool
     ensures { λ r. ⌜ r ≡ labelCharacter c ⌝ }
 {
-    if c < 48 {
+    if c < b'0' {
         return false;
     }
-    c <= 57
+    if c <= b'9' {
+        return true;
+    }
+    if c < b'A' {
+        return false;
+    }
+    if c <= b'Z' {
+        return true;
+    }
+    false
 }
 
 fn label_characters(s: &[u8]) -> bool

@@ -1,5 +1,5 @@
 -- The 512-byte block, over the place where the payload starts: layout, checks A and B, fields, and the single-block check.
-use mathlib.Core.Bool.{Bool, true, false, _&&_}
+use mathlib.Core.Bool.{Bool, true, false, _&&_, _||_}
 use mathlib.Core.List.{List, [], _∷_, _++_}
 use Prim.Native.Nat.{ℕ, zero, suc, _+_, _*_, _-_, _/_, _%_}
 use lib.Dec.{leb, eqb}
@@ -8,9 +8,9 @@ use Rattle.paper.specs.Sizes.{sizeIn, levelsIn, planesIn, unless}
 use Rattle.paper.specs.Bits.{bits, allZero}
 
 -- ---- the label
--- an ASCII digit
+-- 0 to 9 or A to Z, in ASCII (02's ticket 2; 01 has digits alone)
 unfoldable pub labelCharacter : ℕ → Bool
-labelCharacter c = leb 48 c && leb c 57
+labelCharacter c = (leb 48 c && leb c 57) || (leb 65 c && leb c 90)
 
 unfoldable pub labelCharacters : List ℕ → Bool
 labelCharacters [] = true

@@ -1,10 +1,11 @@
--- What was checked by hand: P1 to P11, one list under one claim, and with it the whole block and the label's leading zeros.
+-- What was checked by hand: P1 to P11, one list under one claim, and with it two whole blocks, the label's leading zeros and the
+-- characters that it may have.
 -- Each is proved by computing what the definitions say.
 use mathlib.Core.Path.{_≡_, refl}
 use mathlib.Core.Bool.{Bool, true, false}
 use mathlib.Core.List.{List, [], _∷_, _++_}
-use Prim.Native.Nat.{ℕ, _+_, _*_}
-use lib.ListN.{length, take, replicate}
+use Prim.Native.Nat.{ℕ, suc, _+_, _*_}
+use lib.ListN.{length, take, drop, getD, replicate}
 use lib.IntN.{ℤ, pos, negsuc}
 use Rattle.paper.specs.Sizes.{sizeIn, levelsIn, planesIn, numbersIn, mostBits}
 use Rattle.paper.specs.Lists.{made, joined}
@@ -52,6 +53,18 @@ label417 = 0x30 ∷ 0x30 ∷ 0x30 ∷ 0x30 ∷ 0x30 ∷ 0x34 ∷ 0x31 ∷ 0x37 �
 abbrev pub block417 : List ℕ
 block417 = 0x01 ∷ 0x03 ∷ 0x02 ∷ 0x00 ∷ (label417 ++ (replicate 496 0x00 ++ 0x01 ∷ 0x92 ∷ 0x0D ∷ 0x54 ∷ []))
 
+-- 0417AAL6: the last two places are the media type
+abbrev pub labelL6 : List ℕ
+labelL6 = 0x30 ∷ 0x34 ∷ 0x31 ∷ 0x37 ∷ 0x41 ∷ 0x41 ∷ 0x4C ∷ 0x36 ∷ []
+
+-- the block of P3 with label 0417AAL6, whole
+abbrev pub blockL6 : List ℕ
+blockL6 = 0x01 ∷ 0x03 ∷ 0x02 ∷ 0x03 ∷ (labelL6 ++ 0x00 ∷ 0x00 ∷ 0x00 ∷ 0x11 ∷ 0xC0 ∷ 0x08 ∷ 0x00 ∷ (replicate 489 0x00 ++ 0x02 ∷ 0xB2 ∷ 0x1E ∷ 0x4F ∷ []))
+
+-- 0417AAL6 with each of these characters in each of its eight places: is it a label?
+abbrev pub inEachPlace : List ℕ → List Bool
+inEachPlace cs = joined 8 (λ place. made (length cs) (λ i. isLabel (take place labelL6 ++ getD cs i 0 ∷ drop (suc place) labelL6)))
+
 -- ---- the claim
 pub record Checked : Type 0 where
   pub P1 : lineForward (pos 1 ∷ pos 2 ∷ pos 3 ∷ pos 4 ∷ []) ≡ pos 1 ∷ pos 3 ∷ pos 0 ∷ pos 1 ∷ []
@@ -70,7 +83,14 @@ pub record Checked : Type 0 where
   pub block : writingJob 3 2 0 label417 [] 0 (replicate 514 0x55) ≡ record { refusal = 0; blocks = 1; room = block417 ++ 0x55 ∷ 0x55 ∷ [] }
   pub label : readingJob block417 label417 (replicate 492 0x55) ≡ record { refusal = 0; k = 3; L = 2; n = 0; blocks = 1; bits = 0; ended = 0; room = replicate 492 0x55 }
   pub zeros-kept : (readingJob block417 (0x34 ∷ 0x31 ∷ 0x37 ∷ []) (replicate 492 0x55)) .refusal ≡ 7
+  pub block-L6 : writingJob 3 2 3 labelL6 (0xC0 ∷ 0x08 ∷ 0x00 ∷ []) 17 (replicate 514 0x55) ≡ record { refusal = 0; blocks = 1; room = blockL6 ++ 0x55 ∷ 0x55 ∷ [] }
+  pub label-L6 : readingJob blockL6 labelL6 (replicate 492 0x55) ≡ record { refusal = 0; k = 3; L = 2; n = 3; blocks = 1; bits = 17; ended = 0; room = 0xC0 ∷ 0x08 ∷ 0x00 ∷ replicate 489 0x55 }
+  pub every-character : made 256 labelCharacter ≡ replicate 48 false ++ (replicate 10 true ++ (replicate 7 false ++ (replicate 26 true ++ replicate 165 false)))
+  -- 0 9 A Z
+  pub characters : inEachPlace (0x30 ∷ 0x39 ∷ 0x41 ∷ 0x5A ∷ []) ≡ replicate 32 true
+  -- / : @ [ ` a z {, a space, 0 and 255
+  pub no-characters : inEachPlace (0x2F ∷ 0x3A ∷ 0x40 ∷ 0x5B ∷ 0x60 ∷ 0x61 ∷ 0x7A ∷ 0x7B ∷ 0x20 ∷ 0x00 ∷ 0xFF ∷ []) ≡ replicate 88 false
 
 pub checked : Checked
 unfolding sizeIn levelsIn planesIn numbersIn mostBits made joined highOf lowOf highAt lowAt lineForward interleaved columnOf rowOf zOf rasterOf placeOf lineOf spotOf line along levelForward onFirst levelsForward lowered numbersOf bitOf reaches largest bitsNeeded planeCount testSet refined begun walkNumber _next_ walkNumbers walkSet walkRest walkPlane walkPlanes codeOf decodeOf bits byteOf packed laid allZero labelCharacter labelCharacters isLabel sameBytes plainSum weighedSum header sealed payloadOf checksRight fieldsRight blockRefusal blockOf recordOf inTurn turnRefusal runFrom bitsKept payloadKept sizesRefusal forwardRefusal forwardJob codingRefusal writtenOf codingJob decodingRefusal decodingJob writingRefusal writingJob readingRefusal readingJob
-checked = record { P1 = refl; P2 = refl; P3 = refl; P4 = refl; P5 = refl; P6 = refl; P7 = refl; P8 = refl; P9 = refl; P9-bits = refl; P9-planes = refl; P10 = refl; P11 = refl; block = refl; label = refl; zeros-kept = refl }
+checked = record { P1 = refl; P2 = refl; P3 = refl; P4 = refl; P5 = refl; P6 = refl; P7 = refl; P8 = refl; P9 = refl; P9-bits = refl; P9-planes = refl; P10 = refl; P11 = refl; block = refl; label = refl; zeros-kept = refl; block-L6 = refl; label-L6 = refl; every-character = refl; characters = refl; no-characters = refl }

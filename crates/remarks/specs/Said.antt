@@ -15,7 +15,7 @@ meanings =
     ∷ ascii "a wavelet number is beyond 262143"
     ∷ ascii "more than 18 planes"
     ∷ ascii "more bits than there is room for"
-    ∷ ascii "the label given is not eight digits; leading zeros count"
+    ∷ ascii "a label is eight characters, 0-9 or A-Z; leading zeros count"
     ∷ []
 
 abbrev pub meaning : ℕ → List ℕ

@@ -21,7 +21,7 @@ fn put_meaning(number: u32, line: &mut [u8], at: usize) -> usize
         5 => put(b"more than 18 planes", line, at),
         6 => put(b"more bits than there is room for", line, at),
         7 => put(
-            b"the label given is not eight digits; leading zeros count",
+            b"a label is eight characters, 0-9 or A-Z; leading zeros count",
             line,
             at,
         ),

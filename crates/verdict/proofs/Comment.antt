@@ -1,7 +1,7 @@
 -- The promise in the picture's header: it is one line, so the picture is read back with it, and where there is room for it, it is
 -- all there.
 use mathlib.Core.Path.{_≡_, refl, sym, ap, _∙_}
-use mathlib.Core.Bool.{Bool, true, false, not, _&&_}
+use mathlib.Core.Bool.{Bool, true, false, not, _&&_, _||_}
 use mathlib.Core.List.{List, [], _∷_, _++_, append-nil}
 use Prim.Native.Nat.{ℕ, zero, suc, _+_, _/_, _%_, _≤_}
 use native.Mathlib.Omega.{arith}
@@ -47,12 +47,20 @@ figure-line (suc most) n = digits (ltb n 10) n (decimal most (n / 10)) (figure-l
     digits true n front h = one-more (48 + n) [] (omega arith) nothing-more
     digits false n front h = both-lines front ((48 + n % 10) ∷ []) h (one-more (48 + n % 10) [] (omega arith) nothing-more)
 
+-- no character of a label is below '0'
+character-low : (c : ℕ) → labelCharacter c ≡ true → 48 ≤ c
+unfolding labelCharacter
+character-low c = go (leb 48 c) (leb c 57) refl
+  where
+    go : (low high : Bool) → low ≡ leb 48 c → (low && high) || (leb 65 c && leb c 90) ≡ true → 48 ≤ c
+    go true high l e = leb-true 48 c (sym l)
+    go false high l e = omega (arith, leb-true 65 c (both-first (leb 65 c) (leb c 90) e))
+
 characters-line : (label : List ℕ) → labelCharacters label ≡ true → isOneLine label ≡ true
-unfolding labelCharacters labelCharacter
+unfolding labelCharacters
 characters-line [] h = nothing-more
 characters-line (c ∷ label) h =
-    let e : labelCharacter c ≡ true = both-first (labelCharacter c) (labelCharacters label) h in
-    one-more c label (leb-true 48 c (both-first (leb 48 c) (leb c 57) e)) (characters-line label (both-second (labelCharacter c) (labelCharacters label) h))
+    one-more c label (character-low c (both-first (labelCharacter c) (labelCharacters label) h)) (characters-line label (both-second (labelCharacter c) (labelCharacters label) h))
 
 word-line : (p : ℕ) → isOneLine (word p) ≡ true
 unfolding word isOneLine isLineEnd

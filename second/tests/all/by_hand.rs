@@ -1,10 +1,12 @@
-//! The paper's table "Checked by hand", every row and sentence of it.
+//! The paper's table "Checked by hand", every row and sentence of it; then the
+//! case of label 0417AAL6, and which characters a label may have.
 
 use crate::naive;
 use crate::steps::{self, sizes};
 use second::block;
 use second::jobs;
 use second::places::{RasterPlace, ZPlace};
+use second::record::Kept;
 use second::refusal::Refusal;
 use second::samples::{self, Bits};
 use second::transform;
@@ -169,4 +171,99 @@ fn one_block_whole() {
     assert_eq!(room[512], 0xEE);
     assert_eq!(block::checks(&room), [0x0192, 0x0D54]);
     assert_eq!(jobs::block_check(&room[..512]), Ok(()));
+}
+
+/// P3's block under this label, its checks still 0.
+fn block_of_p3(label: &[u8; 8]) -> [u8; 512] {
+    let mut block = [0; 512];
+    block[..4].copy_from_slice(&[1, 3, 2, 3]);
+    block[4..12].copy_from_slice(label);
+    block[12..19].copy_from_slice(&[0x00, 0x00, 0x00, 0x11, 0xC0, 0x08, 0x00]);
+    block
+}
+
+fn write_p3(label: &[u8], room: &mut [u8]) -> Result<u32, u32> {
+    let bits = p3();
+    jobs::record_writing(3, 2, bits.planes, label, &bits.bytes, bits.count, room)
+        .map_err(Refusal::number)
+}
+
+/// Nothing, if the block is read back as P3's; else the refusal.
+fn read_p3(block: &[u8], label: &[u8]) -> Result<(), u32> {
+    let mut room = [0xEE; 492];
+    let kept = jobs::record_reading(block, label, &mut room).map_err(Refusal::number)?;
+    let whole = Kept {
+        k: 3,
+        levels: 2,
+        planes: 3,
+        blocks: 1,
+        bits: 17,
+        ended: 0,
+    };
+    assert_eq!(kept, whole);
+    assert_eq!(room[..3], [0xC0, 0x08, 0x00]);
+    assert_eq!(room[3..], [0xEE; 489]);
+    Ok(())
+}
+
+#[test]
+fn one_block_of_0417aal6_whole_and_read_back() {
+    let label = [0x30, 0x34, 0x31, 0x37, 0x41, 0x41, 0x4C, 0x36];
+    assert_eq!(label, *b"0417AAL6");
+    let mut block = block_of_p3(&label);
+    block[508..].copy_from_slice(&[0x02, 0xB2, 0x1E, 0x4F]);
+
+    let mut room = [0xEE; 513];
+    assert_eq!(write_p3(&label, &mut room), Ok(1));
+    assert_eq!(room[..512], block);
+    assert_eq!(room[512], 0xEE);
+    assert_eq!(jobs::block_check(&block), Ok(()));
+    assert_eq!(read_p3(&block, &label), Ok(()));
+}
+
+/// 0417AAL6 with each of these characters in each of its places, and P3's block
+/// under this label.
+fn in_each_place(characters: &[u8]) -> Vec<([u8; 8], [u8; 512])> {
+    let mut cases = Vec::new();
+    for place in 0..8 {
+        for character in characters {
+            let mut label = *b"0417AAL6";
+            label[place] = *character;
+            let mut block = block_of_p3(&label);
+            block::write_checks(&mut block);
+            cases.push((label, block));
+        }
+    }
+    cases
+}
+
+#[test]
+fn the_ends_of_both_ranges_are_taken_in_each_place() {
+    let cases = in_each_place(b"09AZ");
+    assert_eq!(cases.len(), 32);
+    for (label, block) in cases {
+        assert_eq!(jobs::block_check(&block), Ok(()));
+        let mut room = [0xEE; 512];
+        assert_eq!(write_p3(&label, &mut room), Ok(1));
+        assert_eq!(room, block);
+        assert_eq!(read_p3(&block, &label), Ok(()));
+    }
+}
+
+#[test]
+fn what_is_no_character_is_refused_in_each_place() {
+    let mut right = block_of_p3(b"0417AAL6");
+    block::write_checks(&mut right);
+    assert_eq!(read_p3(&right, b"0417AAL6"), Ok(()));
+    let cases = in_each_place(b"/:@[`az{ \x00\xFF");
+    assert_eq!(cases.len(), 88);
+    for (label, block) in cases {
+        let judged = jobs::block_check(&block).map_err(Refusal::number);
+        assert_eq!(judged, Err(9), "{:?}", label);
+        let written = write_p3(&label, &mut [0; 512]);
+        assert_eq!(written, Err(7), "{:?}", label);
+        assert_eq!(read_p3(&right, &label), Err(7), "{:?}", label);
+        let standing = read_p3(&block, b"0417AAL6");
+        assert_eq!(standing, Err(9), "{:?}", label);
+    }
 }

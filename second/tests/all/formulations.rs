@@ -2,6 +2,7 @@
 //! requests of every job.
 
 use crate::naive;
+use second::block;
 use second::cases::{self, Options};
 use second::transcript;
 
@@ -62,4 +63,16 @@ fn record_reading_agrees() {
 #[test]
 fn block_check_agrees() {
     compare_both(7);
+}
+
+#[test]
+fn labels_agree_at_every_byte_in_each_place() {
+    for place in 0..8 {
+        for byte in 0..=255 {
+            let mut label = *b"0417AAL6";
+            label[place] = byte;
+            let wanted = naive::is_label(&label);
+            assert_eq!(block::is_label(&label), wanted, "{:?}", label);
+        }
+    }
 }

@@ -346,8 +346,10 @@ fn record(sizes: [u32; 3], label: &[u8], bits: &[bool]) -> Vec<u8> {
     record
 }
 
-fn is_label(label: &[u8]) -> bool {
-    label.len() == 8 && label.iter().all(|byte| (48..58).contains(byte))
+/// By the list of a label's characters, where the program has ranges.
+pub fn is_label(label: &[u8]) -> bool {
+    let characters = b"0123456789ABCDEFGHIJKLMNOPQRSTUVWXYZ";
+    label.len() == 8 && label.iter().all(|byte| characters.contains(byte))
 }
 
 fn word(block: &[u8], place: usize) -> usize {

@@ -1,6 +1,7 @@
 //! The cases and the transcript: every refusal appears, a refused call changes
 //! nothing, and what is written is read back.
 
+use crate::naive;
 use second::cases::{self, Options};
 use second::compare::{self, Outcome};
 use second::random::Random;
@@ -8,7 +9,7 @@ use second::samples;
 use second::show;
 use second::transcript::{self, lent_bytes, lent_numbers, Answer, Field, Request};
 use second::transcript::{MOST_BYTES, MOST_LABEL, MOST_NUMBERS};
-use std::collections::BTreeMap;
+use std::collections::{BTreeMap, BTreeSet};
 use std::slice::from_ref;
 
 fn cases_of(jobs: &[u8], largest: u32, count: u64) -> Vec<Request> {
@@ -74,6 +75,41 @@ fn every_size_appears() {
     assert_eq!(seen.len(), 24);
     assert!(seen.values().all(|times| *times >= 5), "{:?}", seen);
     assert!((0..100).all(|_| samples::sizes(&mut random, 3).k() == 3));
+}
+
+#[test]
+fn every_character_appears_in_each_place_of_a_label() {
+    let mut random = Random::new(52, 0);
+    let mut seen = BTreeSet::new();
+    let mut letters_alone = 0;
+    for _ in 0..10_000 {
+        let label = samples::label(&mut random);
+        assert!(naive::is_label(&label), "{:?}", label);
+        letters_alone += u32::from(label.iter().all(u8::is_ascii_uppercase));
+        seen.extend(label.into_iter().enumerate());
+    }
+    assert_eq!(seen.len(), 8 * 36);
+    assert!(letters_alone >= 500, "{}", letters_alone);
+}
+
+/// Wrong labels of eight bytes have one that is no character, and in each place
+/// it comes to be every small letter and each of the other twelve.
+#[test]
+fn wrong_labels_are_no_labels() {
+    let mut random = Random::new(53, 0);
+    let mut seen = BTreeSet::new();
+    for _ in 0..200_000 {
+        let label = samples::wrong_label(&mut random);
+        assert!(!naive::is_label(&label), "{:?}", label);
+        if label.len() == 8 {
+            let is_stranger = |byte: &u8| !byte.is_ascii_digit() && !byte.is_ascii_uppercase();
+            let strangers = label.iter().enumerate();
+            let strangers: Vec<_> = strangers.filter(|(_, byte)| is_stranger(byte)).collect();
+            assert_eq!(strangers.len(), 1);
+            seen.extend(strangers.iter().map(|(place, byte)| (*place, **byte)));
+        }
+    }
+    assert_eq!(seen.len(), 8 * (26 + 12));
 }
 
 #[test]

@@ -7,7 +7,8 @@
 //!
 //! The S x S numbers stand in Z order: the place of row r, column c has the bits of r and c by turns, the lowest bit of
 //! c lowest. The levels, L, go from 1 to the smaller of 5 and k - 1; the bit planes, n, from 0 to 18. A label is eight
-//! ASCII digits and never a number: leading zeros count.
+//! ASCII characters, each 0 to 9 or A to Z. It is never a number: leading zeros count. Small letters and spaces are
+//! refused.
 //!
 //! ```
 //! use label::{BLOCK_BYTES, PAYLOAD_BYTES, MOST_PLANES};
@@ -195,6 +196,8 @@ pub fn inverse(k: u32, levels: u32, numbers: &[i32], picture: &mut [u8], room: &
 /// let mut record = [0; 512];
 /// assert_eq!(label::write(3, 2, 0, b"00000417", &[], 0, &mut record), Ok(1));
 /// assert_eq!(record[508..], [0x01, 0x92, 0x0D, 0x54]);
+/// assert_eq!(label::write(3, 2, 0, b"0417AAL6", &[], 0, &mut record), Ok(1));
+/// assert_eq!(label::write(3, 2, 0, b"0417aal6", &[], 0, &mut record), Err(label::Refusal::Label));
 /// assert_eq!(label::write(3, 2, 0, b"417", &[], 0, &mut record), Err(label::Refusal::Label));
 /// ```
 pub fn write(

@@ -32,7 +32,7 @@ pub enum Refusal {
     /// 6: more bits than the bytes lent have, or than n planes can have; under 512 bytes to read, or to write for each
     /// block; under 492 bytes of room for each whole block to read; a block to check that is not 512 bytes.
     Room = 6,
-    /// 7: the label given is not eight digits.
+    /// 7: the label given is not eight characters, each 0 to 9 or A to Z.
     Label = 7,
     /// 8: a block's check A or B is wrong.
     Damaged = 8,
@@ -90,7 +90,7 @@ impl fmt::Display for Refusal {
             Refusal::Number => "a number is beyond 262143 on either side of 0",
             Refusal::Planes => "there are more than 18 planes",
             Refusal::Room => "too few bytes, too little room, or too many bits",
-            Refusal::Label => "the label given is not eight digits; leading zeros count",
+            Refusal::Label => "a label is eight characters, 0-9 or A-Z; leading zeros count",
             Refusal::Damaged => "a block is damaged, a check is wrong",
             Refusal::Fields => "a block is no block of edition 1, a field is wrong",
             Refusal::Turn => "a block is out of its turn in the record asked for",

@@ -2,8 +2,8 @@
 
 mod pictures;
 
-use label::{BLOCK_BYTES, PAYLOAD_BITS, PAYLOAD_BYTES};
-use pictures::{coding, pictures, record, sizes, Chance, LABEL};
+use label::{Refusal, BLOCK_BYTES, PAYLOAD_BITS, PAYLOAD_BYTES};
+use pictures::{coding, media_block, pictures, record, sizes, Chance, LABEL, MEDIA};
 
 /// What decoded numbers and greys are worth against the true ones, with p planes unfinished.
 fn as_good_as_promised(levels: u32, unfinished: u32, numbers: &[i32], truth: &[i32], shown: &[u8], picture: &[u8]) {
@@ -113,6 +113,31 @@ fn a_coding_cut_at_any_bit_keeps_its_promise() {
             }
         }
     }
+}
+
+#[test]
+fn a_label_with_a_media_type() {
+    let mut numbers = [0; 64];
+    numbers[0] = 5;
+    let mut bytes = [0; label::most_bytes(3, 3)];
+    let coded = label::code(3, 2, &numbers, usize::MAX, &mut bytes).expect("numbers");
+    assert_eq!((coded.n, coded.bits), (3, 17));
+    let mut block = [0xAA; BLOCK_BYTES];
+    assert_eq!(label::write(3, 2, 3, MEDIA, &bytes, 17, &mut block), Ok(1));
+    assert_eq!(block, media_block());
+    assert_eq!(label::check(&block), Ok(()));
+
+    let mut payload = [0x55; PAYLOAD_BYTES];
+    let kept = label::read(&block, MEDIA, &mut payload).expect("what was written");
+    assert_eq!((kept.k, kept.levels, kept.n), (3, 2, 3));
+    assert_eq!((kept.blocks, kept.bits, kept.ended), (1, 17, None));
+    assert_eq!(payload[..3], [0xC0, 0x08, 0x00]);
+    let mut settled = [9; 64];
+    let unfinished = label::decode(3, 2, 3, &mut settled, &payload, 17).map(|settled| settled.unfinished);
+    assert_eq!((unfinished, settled), (Ok(0), numbers));
+    // neither another label, nor the same in small letters
+    assert_eq!(label::read(&block, b"0417AAL5", &mut payload), Err(Refusal::Turn));
+    assert_eq!(label::read(&block, b"0417aal6", &mut payload), Err(Refusal::Label));
 }
 
 #[test]

@@ -3,7 +3,7 @@
 mod pictures;
 
 use label::{raw, Refusal, BLOCK_BYTES, PAYLOAD_BYTES};
-use pictures::{coding, pictures, record, seal, LABEL};
+use pictures::{coding, media_block, pictures, record, seal, LABEL, MEDIA};
 use std::collections::HashSet;
 
 const ODD: i32 = -77; // what lent slices hold before a call
@@ -184,20 +184,52 @@ fn room() {
 #[test]
 fn labels() {
     let record = long_record();
-    let none: [&[u8]; 9] = [
+    let none: [&[u8]; 12] = [
         b"",
         b"417",
         b"0000417",
         b"000000417",
-        b"ABCDEFGH",
+        b"abcdefgh",
         b"0000041a",
         b" 0000417",
         b"0000041\0",
         b"\xB00000417",
+        b"0417aal6",
+        b"0417AAL",
+        b"0417AAL60",
     ];
     for label in none {
         assert_eq!(write(3, 2, 0, label, 0, 0, 512), Err(Refusal::Label));
         assert_eq!(read(&record, label, room_for(&record)), Err(Refusal::Label));
+    }
+    for label in [LABEL, MEDIA, b"ABCDEFGH", b"ZZZZZZZZ"] {
+        assert_eq!(write(3, 2, 0, label, 0, 0, 512), Ok(1));
+    }
+}
+
+#[test]
+fn every_byte_in_each_place_of_a_label() {
+    for byte in 0..=u8::MAX {
+        // none of / : @ [ ` { beside them, no small letter, no space, no zero byte
+        let taken = byte.is_ascii_digit() || byte.is_ascii_uppercase();
+        for place in 0..8 {
+            let mut block = media_block();
+            block[4 + place] = byte;
+            seal(&mut block);
+            let label = &block[4..12];
+            let answers = [
+                label::check(&block).err(),
+                write(3, 2, 3, label, 3, 17, 512).err(),
+                read(&block, label, PAYLOAD_BYTES).err(),
+                read(&block, MEDIA, PAYLOAD_BYTES).err(),
+            ];
+            let expected = match (taken, label == MEDIA) {
+                (true, true) => [None; 4],
+                (true, false) => [None, None, None, Some(Refusal::Turn)],
+                (false, _) => [Refusal::Fields, Refusal::Label, Refusal::Label, Refusal::Fields].map(Some),
+            };
+            assert_eq!(answers, expected, "byte {byte} in place {place}");
+        }
     }
 }
 

@@ -2,6 +2,7 @@
 #![allow(dead_code)] // no test needs all of them
 
 pub const LABEL: &[u8; 8] = b"00000417";
+pub const MEDIA: &[u8; 8] = b"0417AAL6"; // its last two places are a media type
 
 /// Numbers by chance, the same in every run.
 pub struct Chance(u64);
@@ -68,6 +69,17 @@ pub fn record(k: u32, levels: u32, coding: &Coding) -> Vec<u8> {
     let blocks = label::write(k, levels, coding.n, LABEL, &coding.bytes, coding.bits, &mut room).expect("its bits");
     assert_eq!(blocks * label::BLOCK_BYTES, room.len());
     room
+}
+
+/// The block of the numbers 5, 0, 0, .. 0 under MEDIA, side 8, two levels, as the format's page gives it.
+pub fn media_block() -> [u8; 512] {
+    let mut block = [0; 512];
+    block[..19].copy_from_slice(&[
+        0x01, 0x03, 0x02, 0x03, 0x30, 0x34, 0x31, 0x37, 0x41, 0x41, 0x4C, 0x36, 0x00, 0x00, 0x00, 0x11, 0xC0, 0x08,
+        0x00,
+    ]);
+    block[508..].copy_from_slice(&[0x02, 0xB2, 0x1E, 0x4F]);
+    block
 }
 
 /// Sets checks A and B of a block right, whatever else is wrong with it.
