@@ -7,6 +7,7 @@ use Prim.Native.Nat.{ℕ, zero, suc, _+_, _*_, _-_, _/_, _%_, _^_, _<_, _≤_}
 use native.Mathlib.Omega.{arith}
 use lib.ListN.{length, take, drop, getD, replicate, length-append, length-take, length-drop, take-append-drop, drop-of-length-le, getD-replicate, List·getD-append}
 use lib.Seq.{take-take, take-at, take-append-le, take-append-add, drop-nil, take-nil, getD-take, getD-append-seam, getD-append-add}
+use Rattle.paper.specs.Lists.{Bytes}
 use Rattle.paper.specs.Walk.{worth}
 use Rattle.paper.specs.Bits.{byteBits, bits, byteOf, packed, laid}
 use Rattle.bits.specs.Bits.{kept}
@@ -60,10 +61,7 @@ bits-packed zero (b ∷ l) h = absurd (omega arith)
 bits-packed (suc n) l h =
     (λ i. first-eight l (omega arith) i ++ bits-packed n (drop 8 l) (omega (arith, length-drop 8 l)) i) ∙ take-append-drop 8 l
 
--- ---- bytes, each below 256, as a slice of bytes knows
-abbrev pub Bytes : List ℕ → Type 0
-Bytes s = (i : ℕ) → getD s i 0 < 256
-
+-- ---- bytes, as a slice of bytes knows
 pub packed-bits : (n : ℕ) (s : List ℕ) → Bytes s → length s ≡ n → packed n (bits s) ≡ s
 unfolding bits packed
 packed-bits zero [] b h = refl

@@ -10,6 +10,7 @@ use lib.IntN.{ℤ}
 use lib.ListN.{length, take}
 use borrow.Author.Tests.{eq-eqb}
 use Rattle.paper.specs.Sizes.{sizeIn, levelsIn, numbersIn, mostPlanes}
+use Rattle.paper.specs.Lists.{Bytes}
 use Rattle.paper.specs.Square.{numbersOf, greysOf, pictured}
 use Rattle.paper.specs.Walk.{planeCount, codeOf, decodeOf, Settled}
 use Rattle.paper.specs.Bits.{laid}
@@ -19,7 +20,7 @@ use Rattle.paper.specs.Jobs.{isSquare, Forward, forwardRefusal, forwardJob, Cod
 use Rattle.sizes.proofs.Ranges.{levels-few, levels-less, planes-few}
 use Rattle.sizes.proofs.Refusals.{sizes-passed, done-is}
 use Rattle.sizes.proofs.Numbers.{count-in}
-use Rattle.square_laws.specs.Numbers.{Bytes, numbers-in, length-numbers}
+use Rattle.square_laws.specs.Numbers.{numbers-in, length-numbers}
 use Rattle.record_laws.specs.ReadBack.{bitsIn, readBack}
 use Rattle.walk_laws.specs.Read.{decoded-length}
 use Rattle.walk_laws.specs.Room.{decoded-in}

@@ -6,3 +6,4 @@ pub mod Way
 pub mod Journeys
 pub mod Demand2
 pub mod Demand3
+pub mod Damage

@@ -37,12 +37,16 @@ unfoldable pub weighedSum : ℕ → List ℕ → ℕ
 weighedSum i [] = 0
 weighedSum i (v ∷ s) = (i + 1) * v + weighedSum (i + 1) s
 
+-- the largest prime that two bytes hold
+abbrev pub modulus : ℕ
+modulus = 65521
+
 -- A: the sum modulo 65,521. B: the sum of (i + 1) times byte i, modulo 65,521.
 abbrev pub checkA : List ℕ → ℕ
-checkA s = plainSum s % 65521
+checkA s = plainSum s % modulus
 
 abbrev pub checkB : List ℕ → ℕ
-checkB s = weighedSum 0 s % 65521
+checkB s = weighedSum 0 s % modulus
 
 -- ---- the layout
 -- a number in two bytes, high byte first

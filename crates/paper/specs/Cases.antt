@@ -1,5 +1,5 @@
--- What was checked by hand: P1 to P11, one list under one claim, and with it two whole blocks, the label's leading zeros and the
--- characters that it may have.
+-- What was checked by hand: P1 to P11, one list under one claim, and with it two whole blocks, the checks of a full one, the label's
+-- leading zeros and the characters that it may have.
 -- Each is proved by computing what the definitions say.
 use mathlib.Core.Path.{_≡_, refl}
 use mathlib.Core.Bool.{Bool, true, false}
@@ -85,6 +85,8 @@ pub record Checked : Type 0 where
   pub zeros-kept : (readingJob block417 (0x34 ∷ 0x31 ∷ 0x37 ∷ []) (replicate 492 0x55)) .refusal ≡ 7
   pub block-L6 : writingJob 3 2 3 labelL6 (0xC0 ∷ 0x08 ∷ 0x00 ∷ []) 17 (replicate 514 0x55) ≡ record { refusal = 0; blocks = 1; room = blockL6 ++ 0x55 ∷ 0x55 ∷ [] }
   pub label-L6 : readingJob blockL6 labelL6 (replicate 492 0x55) ≡ record { refusal = 0; k = 3; L = 2; n = 3; blocks = 1; bits = 17; ended = 0; room = 0xC0 ∷ 0x08 ∷ 0x00 ∷ replicate 489 0x55 }
+  -- 508 bytes of 255, of which both sums pass the modulus: 129,540 and 32,967,930
+  pub checks : sealed (replicate 508 0xFF) ≡ replicate 508 0xFF ++ 0xFA ∷ 0x13 ∷ 0x2A ∷ 0x73 ∷ []
   pub every-character : made 256 labelCharacter ≡ replicate 48 false ++ (replicate 10 true ++ (replicate 7 false ++ (replicate 26 true ++ replicate 165 false)))
   -- 0 9 A Z
   pub characters : inEachPlace (0x30 ∷ 0x39 ∷ 0x41 ∷ 0x5A ∷ []) ≡ replicate 32 true
@@ -93,4 +95,4 @@ pub record Checked : Type 0 where
 
 pub checked : Checked
 unfolding sizeIn levelsIn planesIn numbersIn mostBits made joined highOf lowOf highAt lowAt lineForward interleaved columnOf rowOf zOf rasterOf placeOf lineOf spotOf line along levelForward onFirst levelsForward lowered numbersOf bitOf reaches largest bitsNeeded planeCount testSet refined begun walkNumber _next_ walkNumbers walkSet walkRest walkPlane walkPlanes codeOf decodeOf bits byteOf packed laid allZero labelCharacter labelCharacters isLabel sameBytes plainSum weighedSum header sealed payloadOf checksRight fieldsRight blockRefusal blockOf recordOf inTurn turnRefusal runFrom bitsKept payloadKept sizesRefusal forwardRefusal forwardJob codingRefusal writtenOf codingJob decodingRefusal decodingJob writingRefusal writingJob readingRefusal readingJob
-checked = record { P1 = refl; P2 = refl; P3 = refl; P4 = refl; P5 = refl; P6 = refl; P7 = refl; P8 = refl; P9 = refl; P9-bits = refl; P9-planes = refl; P10 = refl; P11 = refl; block = refl; label = refl; zeros-kept = refl; block-L6 = refl; label-L6 = refl; every-character = refl; characters = refl; no-characters = refl }
+checked = record { P1 = refl; P2 = refl; P3 = refl; P4 = refl; P5 = refl; P6 = refl; P7 = refl; P8 = refl; P9 = refl; P9-bits = refl; P9-planes = refl; P10 = refl; P11 = refl; block = refl; label = refl; zeros-kept = refl; block-L6 = refl; label-L6 = refl; checks = refl; every-character = refl; characters = refl; no-characters = refl }

@@ -1,7 +1,7 @@
 -- Lists of which every place is said: the few words that the other sections share.
 use mathlib.Core.Bool.{Bool, true, false}
 use mathlib.Core.List.{List, [], _∷_, _++_}
-use Prim.Native.Nat.{ℕ, zero, suc, _+_, _-_, _/_}
+use Prim.Native.Nat.{ℕ, zero, suc, _+_, _-_, _/_, _<_}
 use lib.ListN.{length, getD, drop}
 use lib.IntN.{ℤ, pos}
 
@@ -13,6 +13,10 @@ made (suc n) f = f 0 ∷ made n (λ i. f (suc i))
 -- the number at a place; past the end stands 0
 abbrev pub at : List ℤ → ℕ → ℤ
 at xs i = getD xs i (pos 0)
+
+-- bytes: each is below 256
+abbrev pub Bytes : List ℕ → Type 0
+Bytes s = (i : ℕ) → getD s i 0 < 256
 
 -- the lists f 0, f 1, .., f (n - 1), one behind the other
 unfoldable pub joined : {A : Type 0} → ℕ → (ℕ → List A) → List A

@@ -8,13 +8,12 @@ use lib.Dec.{leb}
 use lib.ListN.{length}
 use borrow.Author.Tests.{leb-true}
 use Rattle.paper.specs.Sizes.{unless, judged}
-use Rattle.paper.specs.Lists.{over}
+use Rattle.paper.specs.Lists.{Bytes, over}
 use Rattle.paper.specs.Block.{isLabel, byteAt, blockBytes, payloadStart, payloadBytes, payloadBits, numberedBlocks}
 use Rattle.paper.specs.Record.{wholeBlocks, refusalAt, runOf, bitsKept, payloadKept}
 use Rattle.paper.specs.Jobs.{readingRefusal, readRun, readingJob}
 use Rattle.sizes.proofs.Ranges.{both-first, both-second}
 use Rattle.sizes.proofs.Refusals.{row-passed, refused-is, done-is}
-use Rattle.bits.proofs.Packing.{Bytes}
 use Rattle.record_laws.specs.Turn.{kept-numbered, kept-within, bits-kept-most, block-0-passes, block-0-refused}
 use Rattle.record.proofs.RefusalRows.{rows-leave, rows-stand}
 

@@ -7,3 +7,5 @@ pub mod Counts
 pub mod Written
 pub mod ReadBack
 pub mod BothJobs
+pub mod Damaged
+pub mod ReadDamaged

@@ -5,16 +5,17 @@ use mathlib.Core.List.{List}
 use Prim.Native.Nat.{ℕ, zero, suc, _+_, _*_, _<_, _≤_}
 use native.Mathlib.Nat.{mul-suc}
 use native.Mathlib.Omega.{arith}
+use native.Mathlib.Decide.{decLt}
 use lib.Dec.{eqb, eqb·suc-zero}
-use lib.ListN.{drop, getD}
+use lib.ListN.{length, drop, length-take, List·getD-eq-default}
 use lib.Seq.{getD-take, getD-drop}
 use borrow.Author.Tests.{eqb-true}
 use Rattle.paper.specs.Sizes.{unless}
+use Rattle.paper.specs.Lists.{Bytes}
 use Rattle.paper.specs.Block.{blockBytes, payloadBits, numberedBlocks, sameBytes, labelOf, numberOf, countOf, pairAt, blockRefusal}
 use Rattle.paper.specs.Record.{wholeBlocks, blockAt, said, inTurn, turnRefusal, refusalAt, runOf, bitsKept}
 use Rattle.sizes.proofs.Ranges.{both-first, both-second}
 use Rattle.sizes.proofs.Refusals.{row-passed}
-use Rattle.bits.proofs.Packing.{Bytes}
 use Rattle.block.proofs.Blocks.{fields-of-passed, same-bytes-equal}
 use Rattle.record_laws.specs.Kept.{LastFull, run-longest}
 
@@ -46,12 +47,16 @@ keepable start first label i block h =
       labelled = same-bytes-equal _ _ (both-second (numbered && like) expected all);
     }
 
+-- the bytes of a block are bytes, and none stand behind it
+pub block-bytes : (s : List ℕ) → Bytes s → (i : ℕ) → Bytes (blockAt s i)
+block-bytes s w i j = elim (decLt j blockBytes) [
+  | yes h ↦ rw (getD-take blockBytes (drop (blockBytes * i) s) j 0 h, getD-drop (blockBytes * i) s j 0) (w (blockBytes * i + j))
+  | no h ↦ rw (List·getD-eq-default (blockAt s i) 0 (let e : length (blockAt s i) ≤ j = omega (arith, length-take blockBytes (drop (blockBytes * i) s)) in e)) (omega arith)
+]
+
 -- two bytes of a block hold no larger number, so no more blocks are numbered in their turn
-pub pair-small : (s : List ℕ) → Bytes s → (i j : ℕ) → j + 1 < blockBytes → pairAt (blockAt s i) j < numberedBlocks
-pair-small s w i j h = omega (arith, small j (omega arith), small (j + 1) h)
-  where
-    small : (j : ℕ) → j < blockBytes → getD (blockAt s i) j 0 < 256
-    small j h = rw (getD-take blockBytes (drop (blockBytes * i) s) j 0 h, getD-drop (blockBytes * i) s j 0) (w (blockBytes * i + j))
+pub pair-small : (s : List ℕ) → Bytes s → (i j : ℕ) → pairAt (blockAt s i) j < numberedBlocks
+pair-small s w i j = omega (arith, block-bytes s w i j, block-bytes s w i (j + 1))
 
 module _ (start : ℕ) (s label : List ℕ) where
   pub block-kept : (i : ℕ) → refusalAt start s label i ≡ 0 → Keepable start (said (blockAt s 0)) label i (blockAt s i)
@@ -62,7 +67,7 @@ module _ (start : ℕ) (s label : List ℕ) where
     where
       go : (kept : ℕ) → ((j : ℕ) → 0 ≤ j → j < kept → refusalAt start s label j ≡ 0) → kept ≤ numberedBlocks
       go zero passes = omega arith
-      go (suc j) passes = omega (arith, block-kept j (passes j (omega arith) (omega arith)) .number, pair-small s w j 12 (omega arith))
+      go (suc j) passes = omega (arith, block-kept j (passes j (omega arith) (omega arith)) .number, pair-small s w j 12)
 
   pub kept-within : (runOf start s label) .kept ≤ wholeBlocks s
   kept-within = omega (arith, run-longest start s label (wholeBlocks s) 0 .to)

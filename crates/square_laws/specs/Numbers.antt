@@ -6,10 +6,11 @@ use Prim.Native.Nat.{ℕ, zero, suc, _^_, _<_, _≤_}
 use native.Mathlib.Omega.{arith}
 use native.Mathlib.Nat.{pow-le-pow-right}
 use lib.Dec.{leb, lit<}
-use lib.ListN.{length, getD}
+use lib.ListN.{length}
 use lib.IntN.{ℤ, pos, natAbs, _-ℤ_}
 use borrow.Author.Tests.{leb-true, le-leb}
 use Rattle.paper.specs.Sizes.{mostLevels, numberLimit, numbersIn}
+use Rattle.paper.specs.Lists.{Bytes}
 use Rattle.paper.specs.Places.{rasterOf}
 use Rattle.paper.specs.Line.{lineForward}
 use Rattle.paper.specs.Square.{levelsForward, levelsBack, lowered, raised, numbersOf, greysOf}
@@ -39,9 +40,6 @@ each-in [] E = refl
 each-in (x ∷ xs) E = rw (le-leb (natAbs x) numberLimit (E 0 .size)) (each-in xs (λ i. E (suc i)))
 
 -- ---- a picture is bytes
-abbrev pub Bytes : List ℕ → Type 0
-Bytes picture = (place : ℕ) → getD picture place 0 < 256
-
 lowered-within : (g : ℕ) → g < 256 → Within 128 (pos g -ℤ pos 128)
 lowered-within g h = rw (sub-⊖ g 128) (omega zarith)
 

@@ -7,7 +7,7 @@ use native.Mathlib.Omega.{arith}
 use lib.ListN.{length, getD}
 use lib.Seq.{ext-getD}
 use lib.IntN.{ℤ, pos, _+ℤ_, _-ℤ_, -ℤ-+ℤ-cancel}
-use Rattle.paper.specs.Lists.{at}
+use Rattle.paper.specs.Lists.{at, Bytes}
 use Rattle.paper.specs.Places.{zOf, rasterOf}
 use Rattle.paper.specs.Square.{lowered, raised, grey, pictured, numbersOf, greysOf}
 use Rattle.integer_laws.specs.Difference.{_⊖_, ⊖-cases, split}
@@ -19,7 +19,7 @@ use Rattle.line.proofs.FiveThree.{fiveThree, five-three-undoes}
 use Rattle.list_laws.specs.Made.{length-made, getD-made}
 use Rattle.square_laws.specs.Undone.{levels-undone}
 use Rattle.square_laws.specs.Near.{levels-near}
-use Rattle.square_laws.specs.Numbers.{Bytes, length-lowered}
+use Rattle.square_laws.specs.Numbers.{length-lowered}
 
 -- ---- every place
 pub at-lowered : (k : ℕ) (picture : List ℕ) (z : ℕ) → z < 4 ^ k → at (lowered k picture) z ≡ pos (getD picture (rasterOf k z) 0) -ℤ pos 128

@@ -8,11 +8,12 @@ use native.Mathlib.Nat.{pow-le-pow-right}
 use lib.Dec.{lit<}
 use lib.IntN.{ℤ}
 use Rattle.paper.specs.Sizes.{mostLevels, numberLimit, levelsIn, numbersIn}
+use Rattle.paper.specs.Lists.{Bytes}
 use Rattle.paper.specs.Square.{lowered}
 use Rattle.sizes.proofs.Ranges.{levels-few}
 use Rattle.square_laws.specs.Near.{grown}
 use Rattle.square_laws.specs.Range.{grown-most}
-use Rattle.square_laws.specs.Numbers.{Bytes, in-each, lowered-each}
+use Rattle.square_laws.specs.Numbers.{in-each, lowered-each}
 use Rattle.levels.specs.Level.{Fitting, forth}
 
 pub picture-fits : (k L : ℕ) (picture : List ℕ) → levelsIn k L ≡ true → Bytes picture → Fitting forth L (lowered k picture)

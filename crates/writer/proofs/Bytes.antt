@@ -8,11 +8,12 @@ use native.Mathlib.Nat.{mul-assoc}
 use native.Mathlib.Omega.{arith}
 use lib.ListN.{length, take, drop, getD, set}
 use lib.Seq.{drop-drop, drop-cons, drop-length, set-at}
+use Rattle.paper.specs.Lists.{Bytes}
 use Rattle.paper.specs.Bits.{bits, byteOf, packed}
 use Rattle.paper.specs.Block.{payloadBytes, payloadBits}
 use Rattle.paper.specs.Record.{bitsOfBlock}
 use Rattle.bits.specs.Bits.{kept, withBit}
-use Rattle.bits.proofs.Packing.{Bytes, packed-length, packed-before, packed-seam, packed-after}
+use Rattle.bits.proofs.Packing.{packed-length, packed-before, packed-seam, packed-after}
 use Rattle.record_laws.specs.Packing.{packed-at, packed-more, packed-take}
 
 module _ (s : List ℕ) (b at : ℕ) (w : Bytes s) (h : b ≤ 8 * length s) where

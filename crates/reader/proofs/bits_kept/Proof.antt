@@ -23,7 +23,7 @@ pair-at-requires c κs = omega arith
 add-result : tie.Need-add-result
 add-result c =
     let S = c .before .before .before in
-    record { fits = omega (arith, S .pre .1 .0, c .pair-at .ensures ∙ ap countOf (c .before .block-at .ensures .0), pair-small (S .args .blocks .now) (λ i. c .before .before .shared-slice-known .given i .fits) (S .args .kept - 1) 14 (omega arith)) }
+    record { fits = omega (arith, S .pre .1 .0, c .pair-at .ensures ∙ ap countOf (c .before .block-at .ensures .0), pair-small (S .args .blocks .now) (λ i. c .before .before .shared-slice-known .given i .fits) (S .args .kept - 1) 14) }
 
 returns : tie.Need-returns
 returns c =

@@ -1,0 +1,79 @@
+-- What the check catches, of any block that passes it, whatever its fields say and wherever its payload starts: one byte changed, two
+-- unequal bytes exchanged, and more than either, any two bytes changed. Three bytes changed are not always found.
+use mathlib.Core.Path.{_≡_, refl, sym, ap, _∙_, subst}
+use mathlib.Core.Bool.{Bool, true, false}
+use mathlib.Core.List.{List}
+use mathlib.Core.Logic.{_≢_}
+use Prim.Native.Nat.{ℕ, _<_}
+use native.Mathlib.Omega.{arith}
+use native.Mathlib.Decide.{decLt, ℕ-discrete}
+use lib.ListN.{length, set, length-set}
+use lib.Seq.{getD-set-same, getD-set-other, set-set, set-comm}
+use borrow.Author.Tests.{eq-eqb}
+use Rattle.paper.specs.Sizes.{unless, sizeIn, levelsIn, planesIn}
+use Rattle.paper.specs.Lists.{Bytes}
+use Rattle.paper.specs.Walk.{bitOf}
+use Rattle.paper.specs.Bits.{bits, allZero}
+use Rattle.paper.specs.Block.{labelCharacter, labelCharacters, isLabel, blockBytes, payloadStart, payloadOf, plainSum, weighedSum, byteAt, checksRight, fieldsRight, blockRefusal}
+use Rattle.paper.specs.Cases.{block417}
+use Rattle.check_laws.specs.Damage.{Passes, changed, exchanged}
+use Rattle.check_laws.specs.Same.{one-same, ordered-same}
+
+-- ---- refusal 8
+-- A and B are judged first, whatever stands in the fields
+refused : (start : ℕ) (t : List ℕ) → length t ≡ blockBytes → (checksRight t ≡ true → ⊥) → blockRefusal start t ≡ 8
+unfolding blockRefusal
+refused start t long wrong = rw (eq-eqb _ _ long) (go (checksRight t) wrong)
+  where
+    go : (c : Bool) → (c ≡ true → ⊥) → unless 8 c (unless 9 (fieldsRight start t) 0) ≡ 8
+    go true wrong = absurd (wrong refl)
+    go false wrong = refl
+
+bytes-set : (s : List ℕ) (i v : ℕ) → i < length s → v < 256 → Bytes s → Bytes (set s i v)
+bytes-set s i v h small bytes x = elim (ℕ-discrete x i) [
+  | yes e ↦ rw (e, getD-set-same s i v 0 h) small
+  | no e ↦ rw (getD-set-other s i x v 0 e) (bytes x)
+]
+
+module _ (block : List ℕ) (p : Passes block) (start : ℕ) where
+  -- One byte changed.
+  pub one-byte-changed : (i v : ℕ) → i < blockBytes → v < 256 → v ≢ byteAt block i → blockRefusal start (changed i v block) ≡ 8
+  one-byte-changed i v h small other =
+      let within : i < length block = omega (arith, p .long) in
+      let long : length (changed i v block) ≡ blockBytes = length-set block i v ∙ p .long in
+      refused start (changed i v block) long
+      (λ right. let same = one-same block p i v small (record { long = long; bytes = bytes-set block i v within small (p .bytes); right = right }) in
+      other (sym (getD-set-same block i v 0 within) ∙ ap (λ s. byteAt s i) same))
+
+  -- Two bytes changed, to anything that makes it another block.
+  pub two-bytes-changed : (i j v w : ℕ) → i < blockBytes → j < blockBytes → v < 256 → w < 256 → changed j w (changed i v block) ≢ block → blockRefusal start (changed j w (changed i v block)) ≡ 8
+  two-bytes-changed i j v w h k small-v small-w other =
+      let once : length (changed i v block) ≡ blockBytes = length-set block i v ∙ p .long in
+      let twice : length (changed j w (changed i v block)) ≡ blockBytes = length-set (changed i v block) j w ∙ once in
+      let bytes = bytes-set (changed i v block) j w (omega arith) small-w (bytes-set block i v (omega (arith, p .long)) small-v (p .bytes)) in
+      refused start (changed j w (changed i v block)) twice (λ right. other (same (record { long = twice; bytes = bytes; right = right })))
+    where
+      same : Passes (changed j w (changed i v block)) → changed j w (changed i v block) ≡ block
+      same q = elim (decLt i j) [
+        | yes before ↦ ordered-same block p i j v w before small-v small-w q
+        | no after ↦ elim (decLt j i) [
+          | yes before ↦ let turned = set-comm block i j v w (λ e. omega arith) in turned ∙ ordered-same block p j i w v before small-w small-v (subst Passes turned q)
+          | no not ↦
+              let e : j ≡ i = omega arith in
+              let one : changed j w (changed i v block) ≡ changed i w block = ap (λ j. set (set block i v) j w) e ∙ set-set block i v w in
+              one ∙ one-same block p i w small-w (subst Passes one q)
+        ]
+      ]
+
+  -- Two unequal bytes exchanged.
+  pub two-bytes-exchanged : (i j : ℕ) → i < blockBytes → j < blockBytes → byteAt block i ≢ byteAt block j → blockRefusal start (exchanged i j block) ≡ 8
+  two-bytes-exchanged i j h k unequal =
+      let once : byteAt (changed i (byteAt block j) block) i ≡ byteAt block j = getD-set-same block i (byteAt block j) 0 (omega (arith, p .long)) in
+      let there : byteAt (exchanged i j block) i ≡ byteAt block j = getD-set-other (changed i (byteAt block j) block) j i (byteAt block i) 0 (λ e. unequal (ap (byteAt block) e)) ∙ once in
+      two-bytes-changed i j (byteAt block j) (byteAt block i) h k (p .bytes j) (p .bytes i) (λ same. unequal (ap (λ s. byteAt s i) (sym same) ∙ there))
+
+-- ---- what the check does not catch
+-- Three bytes in a row, changed by 1, -2 and 1: the flat block labelled 00000417 becomes one labelled 00001227, and passes.
+pub three-bytes-may-pass : (blockRefusal payloadStart block417 ≡ 0) × (blockRefusal payloadStart (changed 10 0x32 (changed 9 0x32 (changed 8 0x31 block417))) ≡ 0)
+unfolding sizeIn levelsIn planesIn bitOf bits allZero labelCharacter labelCharacters isLabel plainSum weighedSum payloadOf checksRight fieldsRight blockRefusal
+three-bytes-may-pass = (refl, refl)
