@@ -6,7 +6,7 @@ use Prim.Native.Nat.{ℕ, zero, suc, _+_, _*_, _-_, _≤_}
 use native.Mathlib.Nat.{sub-zero}
 use native.Mathlib.Omega.{arith}
 use lib.ListN.{length, take, drop, getD, set, length-take, length-drop, length-append, take-append-drop}
-use lib.Seq.{drop-drop, take-nil, take-all, take-at, drop-at}
+use lib.Seq.{drop-drop, take-nil, take-all, take-take, take-at, drop-at}
 use borrow.Rule.Slice.PartMut.{putMid, postOf}
 
 pub drop-take : {A : Type 0} (n m : ℕ) (l : List A) → n ≤ m → drop n (take m l) ≡ take (m - n) (drop n l)
@@ -14,6 +14,10 @@ drop-take zero m l h = let e : m - 0 ≡ m = omega arith in rw e
 drop-take (suc n) zero l h = absurd (omega arith)
 drop-take (suc n) (suc m) [] h = sym (take-nil (suc m - suc n))
 drop-take (suc n) (suc m) (a ∷ l) h = let e : suc m - suc n ≡ m - n = omega arith in rw e (drop-take n m l (omega arith))
+
+-- a part that lies within the front
+pub part-of-front : {A : Type 0} (a b m : ℕ) (l : List A) → a + b ≤ m → take b (drop a (take m l)) ≡ take b (drop a l)
+part-of-front a b m l h = ap (take b) (drop-take a m l (omega arith)) ∙ take-take b (m - a) (drop a l) (omega arith)
 
 -- what lies behind a part that was lent, from a to e
 pub behind-part : {A : Type 0} (a e : ℕ) (s : List A) → a ≤ e → drop (e - a) (drop a s) ≡ drop e s

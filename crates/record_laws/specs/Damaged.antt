@@ -8,12 +8,12 @@ use native.Mathlib.Omega.{arith}
 use native.Mathlib.Decide.{decLt}
 use lib.Dec.{eqb}
 use lib.ListN.{length, take, drop, length-append, length-drop, length-set}
-use lib.Seq.{length-take-le, take-at, drop-at, take-append-le, drop-append-le, take-take}
+use lib.Seq.{length-take-le, take-at, drop-at, take-append-le, drop-append-le}
 use Rattle.paper.specs.Sizes.{unless}
 use Rattle.paper.specs.Lists.{Bytes}
 use Rattle.paper.specs.Block.{blockBytes, byteAt, blockRefusal}
 use Rattle.paper.specs.Record.{wholeBlocks, blockAt, said, turnRefusal, refusalAt, isFull, runOf}
-use Rattle.list_laws.specs.Parts.{drop-take}
+use Rattle.list_laws.specs.Parts.{part-of-front}
 use Rattle.block.proofs.Blocks.{length-of-passed, checks-of-passed}
 use Rattle.check_laws.specs.Damage.{Passes, changed, exchanged}
 use Rattle.check_laws.specs.Caught.{one-byte-changed, two-bytes-changed, two-bytes-exchanged}
@@ -44,14 +44,11 @@ module _ (s label : List ℕ) (i : ℕ) (h : i < wholeBlocks s) (block : List �
 
   pub blocks-before : (j : ℕ) → j < i → blockAt new j ≡ blockAt s j
   blocks-before j k =
-      let part = take (blockBytes * i) s in
-      let behind = drop (blockBytes * j) part in
-      let e : behind ≡ take (blockBytes * i - blockBytes * j) (drop (blockBytes * j) s) = drop-take (blockBytes * j) (blockBytes * i) s (omega arith) in
-      let enough : blockBytes ≤ length behind = omega (arith, length-drop (blockBytes * j) part, front-long) in
-      ap (take blockBytes) (drop-append-le (blockBytes * j) part _ (omega (arith, front-long)))
-      ∙ take-append-le blockBytes behind _ enough
-      ∙ ap (take blockBytes) e
-      ∙ take-take blockBytes (blockBytes * i - blockBytes * j) (drop (blockBytes * j) s) (omega arith)
+      let front = take (blockBytes * i) s in
+      let enough : blockBytes ≤ length (drop (blockBytes * j) front) = omega (arith, length-drop (blockBytes * j) front, front-long) in
+      ap (take blockBytes) (drop-append-le (blockBytes * j) front _ (omega (arith, front-long)))
+      ∙ take-append-le blockBytes (drop (blockBytes * j) front) _ enough
+      ∙ part-of-front (blockBytes * j) blockBytes (blockBytes * i) s (omega arith)
 
   module _ (start : ℕ) (bad : blockRefusal start block ≡ 8) where
     pub refused-there : refusalAt start new label i ≡ 8

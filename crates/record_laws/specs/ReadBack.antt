@@ -7,7 +7,7 @@ use native.Mathlib.Decide.{decLe}
 use native.Mathlib.Nat.{zero-add}
 use native.Mathlib.Omega.{arith}
 use lib.ListN.{length, take, drop, getD, length-take}
-use lib.Seq.{getD-take, take-take, take-all, take-length, length-take-le}
+use lib.Seq.{getD-take, take-all, take-length, length-take-le}
 use borrow.Author.Tests.{eq-eqb, le-leb}
 use Rattle.paper.specs.Lists.{joined, parts, over}
 use Rattle.paper.specs.Bits.{bits, packed}
@@ -18,7 +18,7 @@ use Rattle.paper.specs.Jobs.{Read, readingRefusal, readRun, readingJob}
 use Rattle.block.proofs.Blocks.{label-length, same-bytes-refl}
 use Rattle.list_laws.specs.Joined.{length-joined, part-joined, joined-same}
 use Rattle.record_laws.specs.Kept.{all-kept}
-use Rattle.list_laws.specs.Parts.{drop-take}
+use Rattle.list_laws.specs.Parts.{part-of-front}
 use Rattle.record_laws.specs.Packing.{take-packed, packed-take, packed-joined, bits-back}
 use Rattle.record_laws.specs.Counts.{blocks-hold, blocks-numbered, bits-more, bits-full, bytes-few, bytes-filled}
 use Rattle.record_laws.specs.Written.{Writable, length-block, front-of-block, label-of-block, count-of-block, payload-of-block, number-of-block, block-passes}
@@ -165,8 +165,7 @@ module _ (start : ℕ) (extra : List ℕ) (k L n : ℕ) (label : List ℕ) (l : 
 
   pub cut-same : (m i : ℕ) → i < blocksWithin start l m → blockAt (take m all) i ≡ block i
   cut-same m i h =
-      ap (take blockBytes) (drop-take (blockBytes * i) m all (omega arith))
-      ∙ take-take blockBytes (m - blockBytes * i) (drop (blockBytes * i) all) (omega arith)
+      part-of-front (blockBytes * i) blockBytes m all (omega arith)
       ∙ ap (λ s. take blockBytes (drop (blockBytes * i) s)) (sym (append-nil all))
       ∙ block-of-record [] i (omega arith)
 

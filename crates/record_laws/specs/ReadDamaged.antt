@@ -9,7 +9,7 @@ use native.Mathlib.Omega.{arith}
 use lib.Dec.{leb}
 use lib.ListN.{length, take, drop}
 use borrow.Author.Tests.{le-leb, leb-true}
-use lib.Seq.{length-take-le, take-take, getD-take}
+use lib.Seq.{length-take-le, getD-take}
 use Rattle.paper.specs.Sizes.{unless, judged}
 use Rattle.paper.specs.Lists.{joined, parts, over}
 use Rattle.paper.specs.Block.{isLabel, byteAt, blockBytes, payloadStart, payloadBytes, payloadBits, countOf, payloadOf, blockRefusal}
@@ -18,7 +18,7 @@ use Rattle.paper.specs.Jobs.{Read, readingRefusal, readRun, readingJob}
 use Rattle.sizes.proofs.Ranges.{both-second}
 use Rattle.sizes.proofs.Refusals.{row-passed, rows-left, done-is}
 use Rattle.list_laws.specs.Joined.{joined-same}
-use Rattle.list_laws.specs.Parts.{drop-take}
+use Rattle.list_laws.specs.Parts.{part-of-front}
 use Rattle.record_laws.specs.Kept.{run-longest, all-kept}
 use Rattle.record_laws.specs.Turn.{kept-within, block-0-passes}
 use Rattle.record_laws.specs.Damaged.{withBlock, new-length, blocks-before, refused-there, as-before, ends-as-8}
@@ -99,7 +99,7 @@ module _ (s label room : List ℕ) (i : ℕ) (kept : i < (readingJob s label roo
     cut-long = length-take-le (blockBytes * i) s (omega (arith, within))
 
     cut-same : (j : ℕ) → j < i → blockAt cut j ≡ blockAt s j
-    cut-same j h = ap (take blockBytes) (drop-take (blockBytes * j) (blockBytes * i) s (omega arith)) ∙ take-take blockBytes (blockBytes * i - blockBytes * j) (drop (blockBytes * j) s) (omega arith)
+    cut-same j h = part-of-front (blockBytes * j) blockBytes (blockBytes * i) s (omega arith)
 
     cut-run : runOf payloadStart cut label ≡ record { kept = i; ended = 0 }
     cut-run =
