@@ -1,11 +1,11 @@
 //! The label library against the second program where chance is not enough:
 //! every size and level, every cut of small codings, every plane count, every
-//! single-byte change of a block, every byte in each place of a label. Stops at
-//! the first difference.
+//! change of one byte and every exchange of two in a block, every byte in each
+//! place of a label. Stops at the first difference.
 
 mod library;
 
-use second::block;
+use second::block::{self, Block, CHECK_A, CHECK_B, LABEL, LENGTH, PAYLOAD_BITS, PAYLOAD_LENGTH};
 use second::random::Random;
 use second::samples;
 use second::show;
@@ -139,18 +139,11 @@ fn every_plane_count(comparison: &mut Comparison, random: &mut Random, sizes: Si
     }
 }
 
-/// A record of two blocks, of which each byte in turn is changed to every other.
+/// A record of two blocks, of which each byte in turn is changed, or that ends after any of them.
 fn every_byte(comparison: &mut Comparison, random: &mut Random) {
     let (label, mut record) = (b"00000417".to_vec(), vec![0; 1024]);
     let bytes = random.bytes(600);
     label::write(5, 2, 8, &label, &bytes, 4500, &mut record).expect("there is room for two blocks");
-    for place in 0..512 {
-        for change in 1..=255 {
-            let mut block = record[512..].to_vec();
-            block[place] ^= change;
-            comparison.same(&Request::BlockCheck { block });
-        }
-    }
     for place in 0..1024 {
         let mut blocks = record.clone();
         blocks[place] ^= 1 << random.below(8);
@@ -215,6 +208,170 @@ fn every_character(comparison: &mut Comparison, random: &mut Random) {
     }
 }
 
+/// P9's block, as it stands in the paper: no program is asked for it.
+fn flat_block() -> Block {
+    let mut block = [0; LENGTH];
+    block[..4].copy_from_slice(&[1, 3, 2, 0]);
+    block[LABEL].copy_from_slice(b"00000417");
+    block[508..].copy_from_slice(&[0x01, 0x92, 0x0D, 0x54]);
+    block
+}
+
+/// Blocks of several kinds whose A and B are right, each with what the single-block check answers to it.
+fn sealed_blocks(random: &mut Random) -> [(Block, u32); 5] {
+    let heading = |k, levels, planes, label| {
+        let sizes = Sizes::new(k, levels).expect("k and L are in their ranges");
+        block::heading(sizes, planes, label)
+    };
+    let empty = block::build(&heading(8, 5, 18, b"ZZ0417M8"), 0, 0, &[]);
+    let payload = random.bytes(PAYLOAD_LENGTH);
+    let dense = block::build(&heading(5, 2, 8, b"0417AAL6"), 1, PAYLOAD_BITS, &payload);
+    let full = block::build(&heading(6, 4, 9, b"99999999"), 2, PAYLOAD_BITS, &[255; PAYLOAD_LENGTH]);
+    let mut no_fields = [0; LENGTH];
+    no_fields.fill_with(|| random.byte());
+    block::write_checks(&mut no_fields);
+    [(flat_block(), 0), (empty, 0), (dense, 0), (full, 0), (no_fields, 9)]
+}
+
+/// Two places of a block, each of them often in the checks.
+fn two_places(random: &mut Random) -> [usize; 2] {
+    let mut place = || {
+        if random.one_in(3) {
+            CHECK_A.start + random.index(4)
+        } else {
+            random.index(LENGTH)
+        }
+    };
+    loop {
+        let places = [place(), place()];
+        if places[0] != places[1] {
+            return places;
+        }
+    }
+}
+
+/// Changes two bytes of a block, often both by as much, up or down: so a sum can be kept.
+fn change_two(random: &mut Random, block: &mut [u8]) {
+    let [one, other] = two_places(random);
+    let by = 1 + random.below(255) as u8;
+    let any = 1 + random.below(255) as u8;
+    block[one] = block[one].wrapping_add(by);
+    block[other] = block[other].wrapping_add(random.pick(&[by, by.wrapping_neg(), any]));
+}
+
+/// Exchanges two unequal bytes of a block.
+fn exchange(random: &mut Random, block: &mut [u8]) {
+    loop {
+        let [one, other] = two_places(random);
+        if block[one] != block[other] {
+            return block.swap(one, other);
+        }
+    }
+}
+
+/// Blocks that were damaged in each way, and refused by 8.
+#[derive(Default)]
+struct Caught {
+    changes: u64,
+    exchanges: u64,
+    pairs: u64,
+}
+
+/// Every change of one byte of a block, every exchange of two, and changes of two by chance: A and B find them all, and
+/// are judged before the fields.
+fn what_the_check_catches(comparison: &mut Comparison, random: &mut Random) -> Caught {
+    let mut caught = Caught::default();
+    let mut by_rule = |block: Block, refusal| {
+        let block = block.to_vec();
+        comparison.by_rule(&Request::BlockCheck { block }, &[("refusal", refusal)]);
+    };
+    for (block, own) in sealed_blocks(random) {
+        by_rule(block, own);
+        for place in 0..LENGTH {
+            for change in 1..=255 {
+                let mut changed = block;
+                changed[place] ^= change;
+                by_rule(changed, 8);
+                caught.changes += 1;
+            }
+            for other in place + 1..LENGTH {
+                let mut exchanged = block;
+                exchanged.swap(place, other);
+                // Two equal bytes leave the block as it was.
+                let is_other = block[place] != block[other];
+                by_rule(exchanged, if is_other { 8 } else { own });
+                caught.exchanges += u64::from(is_other);
+            }
+        }
+        for _ in 0..40_000 {
+            let mut changed = block;
+            change_two(random, &mut changed);
+            by_rule(changed, 8);
+            caught.pairs += 1;
+        }
+        // A byte and a check raised alike: they would agree again if the other check did not weigh that byte.
+        for place in 0..CHECK_A.start {
+            for check in CHECK_A.start..LENGTH {
+                let mut changed = block;
+                for raised in [place, check] {
+                    changed[raised] = changed[raised].wrapping_add(1);
+                }
+                by_rule(changed, 8);
+                caught.pairs += 1;
+            }
+        }
+    }
+    // The sums of zeros are 0, and so is 65,521 by the modulus; but it is another number, and not the check.
+    by_rule([0; LENGTH], 9);
+    for check in [CHECK_A, CHECK_B] {
+        let mut raised = [0; LENGTH];
+        raised[check].copy_from_slice(&65_521_u16.to_be_bytes());
+        by_rule(raised, 8);
+        caught.pairs += 1;
+    }
+    // What they do not find: three bytes that leave both sums as they were. The label is now 00001227.
+    let mut unnoticed = flat_block();
+    for (place, by) in [(8, 1), (9, -2), (10, 1)] {
+        unnoticed[place] = unnoticed[place].wrapping_add_signed(by);
+    }
+    by_rule(unnoticed, 0);
+    caught
+}
+
+/// A record of three blocks, one of them damaged in such ways: a reader keeps those before it and ends the run as 8, or
+/// refuses by 8 where none is before it. Gives how many were damaged.
+fn where_a_run_ends(comparison: &mut Comparison, random: &mut Random) -> u64 {
+    let (label, mut record) = (b"00000417".to_vec(), vec![0; 3 * LENGTH]);
+    let bytes = random.bytes(1200);
+    label::write(5, 2, 8, &label, &bytes, 9000, &mut record).expect("there is room for three blocks");
+    let mut by_rule = |blocks: Vec<u8>, refusal, kept, ended| {
+        let (label, room) = (label.clone(), 3 * PAYLOAD_LENGTH);
+        let reading = Request::RecordReading { blocks, label, room };
+        comparison.by_rule(&reading, &[("refusal", refusal), ("blocks", kept), ("ended", ended)]);
+    };
+    by_rule(record.clone(), 0, 3, 0);
+    let mut damaged = 0;
+    for turn in 0..3 {
+        for round in 0..LENGTH + 8000 {
+            let mut blocks = record.clone();
+            let block = &mut blocks[turn * LENGTH..][..LENGTH];
+            if round < LENGTH {
+                block[round] ^= 1 + random.below(255) as u8;
+            } else if round % 2 == 0 {
+                exchange(random, block);
+            } else {
+                change_two(random, block);
+            }
+            match turn {
+                0 => by_rule(blocks, 8, 0, 0),
+                kept => by_rule(blocks, 0, kept as u32, 8),
+            }
+            damaged += 1;
+        }
+    }
+    damaged
+}
+
 fn main() {
     let mut comparison = Comparison { cases: 0 };
     let mut random = Random::new(417, 0);
@@ -229,5 +386,12 @@ fn main() {
     }
     every_byte(&mut comparison, &mut random);
     every_character(&mut comparison, &mut random);
+    let caught = what_the_check_catches(&mut comparison, &mut random);
+    let damaged = where_a_run_ends(&mut comparison, &mut random);
     println!("{} cases one by one, no difference", comparison.cases);
+    println!(
+        "{} changes of one byte of a block, {} exchanges of two unequal bytes, {} changes of two: each refused by 8",
+        caught.changes, caught.exchanges, caught.pairs
+    );
+    println!("{damaged} records with one block so damaged: each kept up to that block and no further, by 8");
 }

@@ -10,24 +10,27 @@ use native.Mathlib.Decide.{decLt, ℕ-discrete}
 use lib.ListN.{length, set, length-set}
 use lib.Seq.{getD-set-same, getD-set-other, set-set, set-comm}
 use borrow.Author.Tests.{eq-eqb}
-use Rattle.paper.specs.Sizes.{unless, sizeIn, levelsIn, planesIn}
+use Rattle.paper.specs.Sizes.{sizeIn, levelsIn, planesIn}
 use Rattle.paper.specs.Lists.{Bytes}
 use Rattle.paper.specs.Walk.{bitOf}
 use Rattle.paper.specs.Bits.{bits, allZero}
 use Rattle.paper.specs.Block.{labelCharacter, labelCharacters, isLabel, blockBytes, payloadStart, payloadOf, plainSum, weighedSum, byteAt, checksRight, fieldsRight, blockRefusal}
 use Rattle.paper.specs.Cases.{block417}
-use Rattle.check_laws.specs.Damage.{Passes, changed, exchanged}
+use Rattle.check_laws.specs.Damage.{Passes, Caught, changed, exchanged}
 use Rattle.check_laws.specs.Same.{one-same, ordered-same}
 
--- ---- refusal 8
--- A and B are judged first, whatever stands in the fields
-refused : (start : ℕ) (t : List ℕ) → length t ≡ blockBytes → (checksRight t ≡ true → ⊥) → blockRefusal start t ≡ 8
+-- ---- a block that passes no more
+-- A and B are judged before the fields
+caught : (t : List ℕ) → length t ≡ blockBytes → (checksRight t ≡ true → ⊥) → Caught t
 unfolding blockRefusal
-refused start t long wrong = rw (eq-eqb _ _ long) (go (checksRight t) wrong)
+caught t long not = record { long = long; wrong = wrong (checksRight t) not; refused = refused }
   where
-    go : (c : Bool) → (c ≡ true → ⊥) → unless 8 c (unless 9 (fieldsRight start t) 0) ≡ 8
-    go true wrong = absurd (wrong refl)
-    go false wrong = refl
+    wrong : (c : Bool) → (c ≡ true → ⊥) → c ≡ false
+    wrong true not = absurd (not refl)
+    wrong false not = refl
+
+    refused : (start : ℕ) → blockRefusal start t ≡ 8
+    refused start = rw (eq-eqb _ _ long, wrong (checksRight t) not)
 
 bytes-set : (s : List ℕ) (i v : ℕ) → i < length s → v < 256 → Bytes s → Bytes (set s i v)
 bytes-set s i v h small bytes x = elim (ℕ-discrete x i) [
@@ -35,23 +38,23 @@ bytes-set s i v h small bytes x = elim (ℕ-discrete x i) [
   | no e ↦ rw (getD-set-other s i x v 0 e) (bytes x)
 ]
 
-module _ (block : List ℕ) (p : Passes block) (start : ℕ) where
+module _ (block : List ℕ) (p : Passes block) where
   -- One byte changed.
-  pub one-byte-changed : (i v : ℕ) → i < blockBytes → v < 256 → v ≢ byteAt block i → blockRefusal start (changed i v block) ≡ 8
+  pub one-byte-changed : (i v : ℕ) → i < blockBytes → v < 256 → v ≢ byteAt block i → Caught (changed i v block)
   one-byte-changed i v h small other =
       let within : i < length block = omega (arith, p .long) in
       let long : length (changed i v block) ≡ blockBytes = length-set block i v ∙ p .long in
-      refused start (changed i v block) long
+      caught (changed i v block) long
       (λ right. let same = one-same block p i v small (record { long = long; bytes = bytes-set block i v within small (p .bytes); right = right }) in
       other (sym (getD-set-same block i v 0 within) ∙ ap (λ s. byteAt s i) same))
 
   -- Two bytes changed, to anything that makes it another block.
-  pub two-bytes-changed : (i j v w : ℕ) → i < blockBytes → j < blockBytes → v < 256 → w < 256 → changed j w (changed i v block) ≢ block → blockRefusal start (changed j w (changed i v block)) ≡ 8
+  pub two-bytes-changed : (i j v w : ℕ) → i < blockBytes → j < blockBytes → v < 256 → w < 256 → changed j w (changed i v block) ≢ block → Caught (changed j w (changed i v block))
   two-bytes-changed i j v w h k small-v small-w other =
       let once : length (changed i v block) ≡ blockBytes = length-set block i v ∙ p .long in
       let twice : length (changed j w (changed i v block)) ≡ blockBytes = length-set (changed i v block) j w ∙ once in
       let bytes = bytes-set (changed i v block) j w (omega arith) small-w (bytes-set block i v (omega (arith, p .long)) small-v (p .bytes)) in
-      refused start (changed j w (changed i v block)) twice (λ right. other (same (record { long = twice; bytes = bytes; right = right })))
+      caught (changed j w (changed i v block)) twice (λ right. other (same (record { long = twice; bytes = bytes; right = right })))
     where
       same : Passes (changed j w (changed i v block)) → changed j w (changed i v block) ≡ block
       same q = elim (decLt i j) [
@@ -66,7 +69,7 @@ module _ (block : List ℕ) (p : Passes block) (start : ℕ) where
       ]
 
   -- Two unequal bytes exchanged.
-  pub two-bytes-exchanged : (i j : ℕ) → i < blockBytes → j < blockBytes → byteAt block i ≢ byteAt block j → blockRefusal start (exchanged i j block) ≡ 8
+  pub two-bytes-exchanged : (i j : ℕ) → i < blockBytes → j < blockBytes → byteAt block i ≢ byteAt block j → Caught (exchanged i j block)
   two-bytes-exchanged i j h k unequal =
       let once : byteAt (changed i (byteAt block j) block) i ≡ byteAt block j = getD-set-same block i (byteAt block j) 0 (omega (arith, p .long)) in
       let there : byteAt (exchanged i j block) i ≡ byteAt block j = getD-set-other (changed i (byteAt block j) block) j i (byteAt block i) 0 (λ e. unequal (ap (byteAt block) e)) ∙ once in

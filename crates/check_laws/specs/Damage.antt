@@ -1,11 +1,13 @@
--- The words of what the check catches: a block that passes its check, one byte of it changed, two of its bytes exchanged.
+-- The words of what the check catches: a block that passes its check, its bytes changed or exchanged, and what the check makes of it.
 use mathlib.Core.Path.{_≡_, refl}
-use mathlib.Core.Bool.{true}
+use mathlib.Core.Bool.{true, false}
 use mathlib.Core.List.{List}
-use Prim.Native.Nat.{ℕ}
-use lib.ListN.{length, set}
+use Prim.Native.Nat.{ℕ, _≤_}
+use native.Mathlib.Omega.{arith}
+use native.Mathlib.Decide.{decLt}
+use lib.ListN.{length, set, replicate, length-replicate, getD-replicate, List·getD-eq-default}
 use Rattle.paper.specs.Lists.{Bytes}
-use Rattle.paper.specs.Block.{blockBytes, byteAt, checksRight}
+use Rattle.paper.specs.Block.{blockBytes, payloadStart, byteAt, plainSum, weighedSum, checksRight, fieldsRight, blockRefusal}
 use Rattle.paper.specs.Cases.{block417}
 
 -- 512 bytes that pass their check: A and B are right, whatever the fields say
@@ -22,7 +24,28 @@ changed i v block = set block i v
 abbrev pub exchanged : ℕ → ℕ → List ℕ → List ℕ
 exchanged i j block = changed j (byteAt block i) (changed i (byteAt block j) block)
 
--- the two words at work on the flat block labelled 00000417: its byte 3 is 0x00, and its last, of check B, is 0x54
+-- A or B of these 512 bytes is wrong, and the single-block check answers 8, wherever the payload starts
+pub record Caught (block : List ℕ) : Type 0 where
+  pub long : length block ≡ blockBytes
+  pub wrong : checksRight block ≡ false
+  pub refused : (start : ℕ) → blockRefusal start block ≡ 8
+
+-- ---- the words at work
+-- 512 zero bytes pass their check: what refuses them is the edition
+abbrev zeros : List ℕ
+zeros = replicate blockBytes 0
+
+zero-bytes : Bytes zeros
+zero-bytes i = elim (decLt i blockBytes) [
+  | yes h ↦ rw (getD-replicate {A = ℕ} blockBytes i 0 0 h) (omega arith)
+  | no h ↦ rw (List·getD-eq-default zeros 0 (let e : length zeros ≤ i = omega (arith, length-replicate {A = ℕ} blockBytes 0) in e)) (omega arith)
+]
+
+pub zeros-pass : Passes zeros × (blockRefusal payloadStart zeros ≡ 9)
+unfolding plainSum weighedSum checksRight fieldsRight blockRefusal
+zeros-pass = (record { long = refl; bytes = zero-bytes; right = refl }, refl)
+
+-- the flat block labelled 00000417: its byte 3 is 0x00, and its last, of check B, 0x54
 pub changed-seen : (byteAt (changed 511 0x55 block417) 510 ≡ 0x0D) × (byteAt (changed 511 0x55 block417) 511 ≡ 0x55)
 changed-seen = (refl, refl)
 

@@ -10,9 +10,9 @@ use lib.Dec.{eqb}
 use borrow.Author.Tests.{eq-eqb}
 use Rattle.paper.specs.Block.{modulus, checksStart}
 
--- one of any two factors is 1
+-- above 1, and one of any two factors is 1
 abbrev pub Prime : ℕ → Type 0
-Prime m = (c d : ℕ) → c * d ≡ m → (c ≡ 1) ⊎ (d ≡ 1)
+Prime m = (1 < m) × ((c d : ℕ) → c * d ≡ m → (c ≡ 1) ⊎ (d ≡ 1))
 
 -- none of 2, 3, .., n + 1 divides m
 unfoldable undivided : ℕ → ℕ → Bool
@@ -33,20 +33,23 @@ undivided-below m (suc n) d all h e =
     ]
 
 -- two factors of a number below 256 times 256 are not both 256 or more
-module _ (m : ℕ) (tried : undivided m 254 ≡ true) (some : 0 < m) (most : m < 256 * 256) where
+module _ (m : ℕ) (tried : undivided m 254 ≡ true) (some : 1 < m) (most : m < 256 * 256) where
   small-factor : (c d : ℕ) → c < 256 → d * c ≡ m → c ≡ 1
   small-factor zero d h e = absurd (omega (arith, e))
   small-factor (suc zero) d h e = refl
   small-factor (suc (suc c)) d h e = absurd (undivided-below m 254 c tried (omega arith) (ap (λ m. m % suc (suc c)) (sym e) ∙ mul-mod-left d (suc (suc c))))
 
-  prime : Prime m
-  prime c d e = elim (decLt c 256) [
+  factors : (c d : ℕ) → c * d ≡ m → (c ≡ 1) ⊎ (d ≡ 1)
+  factors c d e = elim (decLt c 256) [
     | yes h ↦ inl (small-factor c d h (mul-comm d c ∙ e))
     | no h ↦ elim (decLt d 256) [
       | yes k ↦ inr (small-factor d c k e)
       | no k ↦ absurd (let z : 256 * 256 ≤ c * d = mul-le-mul {n₁ = 256} {m₁ = 256} (omega arith) (omega arith) in omega arith)
     ]
   ]
+
+  prime : Prime m
+  prime = (some, factors)
 
 pub modulus-prime : Prime modulus
 unfolding undivided
@@ -66,20 +69,20 @@ in-a = record { some = omega arith; weight = omega arith; most = omega arith; pr
 
 -- in B a byte has its place's weight, and two that move by as much the way between them
 pub in-b : (c : ℕ) → 0 < c → c ≤ checksStart → Small c 255
-in-b c some most = record { some = some; weight = omega arith; most = omega arith; product = omega arith }
+in-b c some most = record { some = omega arith; weight = omega arith; most = omega arith; product = omega arith }
 
 -- it moved by a multiple of the modulus
 multiple : (x p : ℕ) → (x + p) % modulus ≡ x % modulus → p ≡ modulus * ((x + p) / modulus - x / modulus)
 multiple x p same = omega arith
 
--- which no product is of two numbers that are less than the prime, but 0
+-- and a product of two numbers below a prime is no multiple of it, unless it is 0
 unmoved : (x c d : ℕ) {top : ℕ} → Small c top → d ≤ top → (x + c * d) % modulus ≡ x % modulus → d ≡ 0
 unmoved x c zero S h same = refl
 unmoved x c (suc d) {top} S h same =
     let least : 0 < c * suc d = mul-pos (S .some) (omega arith) in
     let bound : c * suc d ≤ c * top = mul-le-mul {n₁ = c} {n₂ = c} (omega arith) h in
     let e : c * suc d ≡ modulus = omega (arith, multiple x (c * suc d) same, S .product) in
-    absurd (elim (modulus-prime c (suc d) e) [
+    absurd (elim (modulus-prime .1 c (suc d) e) [
       | inl one ↦ let z : 1 * suc d ≡ modulus = ap (λ c. c * suc d) (sym one) ∙ e in omega (arith, S .most)
       | inr one ↦ let z : c * 1 ≡ modulus = ap (λ d. c * d) (sym one) ∙ e in omega (arith, S .weight)
     ])

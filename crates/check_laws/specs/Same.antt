@@ -4,7 +4,7 @@
 --   one in the body, one in the checks: a byte of the body moves both sums, and one byte of the checks stands for only one of them;
 --   both in the checks: the sums are as they were, and they say all four bytes.
 use mathlib.Core.Path.{_≡_, sym, ap, _∙_}
-use mathlib.Core.Bool.{true, and-eq-true-iff}
+use mathlib.Core.Bool.{and-eq-true-iff}
 use mathlib.Core.List.{List, [], _∷_, _++_}
 use mathlib.Core.Logic.{_≢_}
 use Prim.Native.Nat.{ℕ, _+_, _*_, _-_, _%_, _<_, _≤_}
@@ -21,49 +21,53 @@ use Rattle.check_laws.specs.Prime.{in-a, in-b, moved-back}
 use Rattle.check_laws.specs.Sums.{sumA, sumB, a-moved, b-moved}
 use Rattle.check_laws.specs.Damage.{Passes}
 
--- ---- A and B, each by itself
-record Sound (block : List ℕ) : Type 0 where
-  a : pairAt block checksStart ≡ sumA block % modulus
-  b : pairAt block (checksStart + 2) ≡ sumB block % modulus
+-- ---- A and B stand in the last four bytes
+module _ (block : List ℕ) (p : Passes block) where
+  both : (pairAt block checksStart ≡ checkA (take checksStart block)) × (pairAt block (checksStart + 2) ≡ checkB (take checksStart block))
+  unfolding checksRight
+  both =
+      let (a, b) = and-eq-true-iff (eqb (pairAt block checksStart) (checkA (take checksStart block))) (eqb (pairAt block (checksStart + 2)) (checkB (take checksStart block))) .0 (p .right) in
+      (eqb-true _ _ a, eqb-true _ _ b)
 
-sound : (block : List ℕ) → Passes block → Sound block
-unfolding checksRight
-sound block p =
-    let both = and-eq-true-iff (eqb (pairAt block checksStart) (checkA (take checksStart block))) (eqb (pairAt block (checksStart + 2)) (checkB (take checksStart block))) .0 (p .right) in
-    record { a = eqb-true _ _ (both .0); b = eqb-true _ _ (both .1) }
+  a-stands : pairAt block checksStart ≡ sumA block % modulus
+  a-stands = both .0
 
--- of two blocks that pass: what stands in the checks is what the sums leave
+  b-stands : pairAt block (checksStart + 2) ≡ sumB block % modulus
+  b-stands = both .1
+
+-- one of them, in two blocks that pass: `sum` stands at x
+module _ (sum : List ℕ → ℕ) (x : ℕ) (stands : (block : List ℕ) → Passes block → pairAt block x ≡ sum (take checksStart block) % modulus) (s t : List ℕ) (p : Passes s) (q : Passes t) where
+  leaves : pairAt t x ≡ pairAt s x → sum (take checksStart t) % modulus ≡ sum (take checksStart s) % modulus
+  leaves e = sym (stands t q) ∙ e ∙ stands s p
+
+  -- two bytes say a number below 65,536
+  same-pair : take checksStart t ≡ take checksStart s → (byteAt t x ≡ byteAt s x) × (byteAt t (x + 1) ≡ byteAt s (x + 1))
+  same-pair body =
+      let e : pairAt t x ≡ pairAt s x = stands t q ∙ ap (λ body. sum body % modulus) body ∙ sym (stands s p) in
+      (omega (arith, e, p .bytes (x + 1), q .bytes (x + 1)), omega (arith, e, p .bytes (x + 1), q .bytes (x + 1)))
+
+four-last : (block : List ℕ) → length block ≡ blockBytes → byteAt block 508 ∷ byteAt block 509 ∷ byteAt block 510 ∷ byteAt block 511 ∷ [] ≡ drop checksStart block
+four-last block long =
+    (λ z. sym (getD-drop 508 block 0 0) z ∷ sym (getD-drop 508 block 1 0) z ∷ sym (getD-drop 508 block 2 0) z ∷ sym (getD-drop 508 block 3 0) z ∷ [])
+    ∙ four-places 0 (drop checksStart block) (omega (arith, length-drop checksStart block, long))
+
+-- of one body there is one block that passes
 module _ (s t : List ℕ) (p : Passes s) (q : Passes t) where
   leaves-a : pairAt t checksStart ≡ pairAt s checksStart → sumA t % modulus ≡ sumA s % modulus
-  leaves-a e = sym (sound t q .a) ∙ e ∙ sound s p .a
+  leaves-a = leaves plainSum checksStart a-stands s t p q
 
   leaves-b : pairAt t (checksStart + 2) ≡ pairAt s (checksStart + 2) → sumB t % modulus ≡ sumB s % modulus
-  leaves-b e = sym (sound t q .b) ∙ e ∙ sound s p .b
+  leaves-b = leaves (weighedSum 0) (checksStart + 2) b-stands s t p q
 
-  -- with one body they are one
-  module _ (body : take checksStart t ≡ take checksStart s) where
-    same-a : pairAt t checksStart ≡ pairAt s checksStart
-    same-a = sound t q .a ∙ ap (λ body. plainSum body % modulus) body ∙ sym (sound s p .a)
-
-    same-b : pairAt t (checksStart + 2) ≡ pairAt s (checksStart + 2)
-    same-b = sound t q .b ∙ ap (λ body. weighedSum 0 body % modulus) body ∙ sym (sound s p .b)
-
-    four : (block : List ℕ) → length block ≡ blockBytes → byteAt block 508 ∷ byteAt block 509 ∷ byteAt block 510 ∷ byteAt block 511 ∷ [] ≡ drop checksStart block
-    four block long =
-        (λ z. sym (getD-drop 508 block 0 0) z ∷ sym (getD-drop 508 block 1 0) z ∷ sym (getD-drop 508 block 2 0) z ∷ sym (getD-drop 508 block 3 0) z ∷ [])
-        ∙ four-places 0 (drop checksStart block) (omega (arith, length-drop checksStart block, long))
-
-    same-block : t ≡ s
-    same-block =
-        let e508 : byteAt t 508 ≡ byteAt s 508 = omega (arith, same-a, p .bytes 509, q .bytes 509) in
-        let e509 : byteAt t 509 ≡ byteAt s 509 = omega (arith, same-a, p .bytes 509, q .bytes 509) in
-        let e510 : byteAt t 510 ≡ byteAt s 510 = omega (arith, same-b, p .bytes 511, q .bytes 511) in
-        let e511 : byteAt t 511 ≡ byteAt s 511 = omega (arith, same-b, p .bytes 511, q .bytes 511) in
-        let checks : drop checksStart t ≡ drop checksStart s = sym (four t (q .long)) ∙ (λ z. e508 z ∷ e509 z ∷ e510 z ∷ e511 z ∷ []) ∙ four s (p .long) in
-        sym (take-append-drop checksStart t) ∙ (λ z. body z ++ checks z) ∙ take-append-drop checksStart s
+  same-block : take checksStart t ≡ take checksStart s → t ≡ s
+  same-block body =
+      let a = same-pair plainSum checksStart a-stands s t p q body in
+      let b = same-pair (weighedSum 0) (checksStart + 2) b-stands s t p q body in
+      let checks : drop checksStart t ≡ drop checksStart s = sym (four-last t (q .long)) ∙ (λ z. a .0 z ∷ a .1 z ∷ b .0 z ∷ b .1 z ∷ []) ∙ four-last s (p .long) in
+      sym (take-append-drop checksStart t) ∙ (λ z. body z ++ checks z) ∙ take-append-drop checksStart s
 
 -- ---- one byte
--- made what it was
+-- a byte made what it was before
 unchanged : (s : List ℕ) (i v : ℕ) → v ≡ byteAt s i → set s i v ≡ s
 unchanged s i v e = ap (set s i) e ∙ set-getD s i 0
 
@@ -96,12 +100,9 @@ module _ (s : List ℕ) (p : Passes s) (i j v w : ℕ) (order : i < j) (small-v 
   elsewhere : (x : ℕ) → x ≢ i → x ≢ j → byteAt twice x ≡ byteAt s x
   elsewhere x a b = getD-set-other once j x w 0 b ∙ getD-set-other s i x v 0 a
 
-  -- two bytes that both stand before, and two that stand between
-  behind : (x : ℕ) → j < x → pairAt twice x ≡ pairAt s x
-  behind x h = omega (arith, elsewhere x (λ e. omega arith) (λ e. omega arith), elsewhere (x + 1) (λ e. omega arith) (λ e. omega arith))
-
-  between : (x : ℕ) → i < x → x + 1 < j → pairAt twice x ≡ pairAt s x
-  between x h k = omega (arith, elsewhere x (λ e. omega arith) (λ e. omega arith), elsewhere (x + 1) (λ e. omega arith) (λ e. omega arith))
+  -- a pair behind place i, of which neither byte is at place j
+  untouched : (x : ℕ) → i < x → ((y : ℕ) → x ≤ y → y ≤ x + 1 → y ≢ j) → pairAt twice x ≡ pairAt s x
+  untouched x h off = omega (arith, elsewhere x (λ e. omega arith) (off x (omega arith) (omega arith)), elsewhere (x + 1) (λ e. omega arith) (off (x + 1) (omega arith) (omega arith)))
 
   -- the weight of place j is that of place i and the way between them
   further : (x : ℕ) → (j + 1) * x ≡ (i + 1) * x + (j - i) * x
@@ -113,10 +114,10 @@ module _ (s : List ℕ) (p : Passes s) (i j v w : ℕ) (order : i < j) (small-v 
     in-body h =
         let there : byteAt once j ≡ byteAt s j = getD-set-other s i j v 0 (λ e. omega arith) in
         let long : length once ≡ blockBytes = length-set s i v ∙ p .long in
-        let even : v + w ≡ byteAt s i + byteAt s j = moved-back (sumA s) (sumA twice) 1 (byteAt s i + byteAt s j) (v + w) in-a (omega (arith, p .bytes i, p .bytes j)) (omega arith) (omega (arith, a-moved s (p .long) i v (omega arith), a-moved once long j w h, there)) (leaves-a s twice p q (behind checksStart h)) in
+        let even : v + w ≡ byteAt s i + byteAt s j = moved-back (sumA s) (sumA twice) 1 (byteAt s i + byteAt s j) (v + w) in-a (omega (arith, p .bytes i, p .bytes j)) (omega arith) (omega (arith, a-moved s (p .long) i v (omega arith), a-moved once long j w h, there)) (leaves-a s twice p q (untouched checksStart (omega arith) (λ y a b e. omega arith))) in
         let alike : (i + 1) * v + (i + 1) * w ≡ (i + 1) * byteAt s i + (i + 1) * byteAt s j = sym (mul-add (i + 1) v w) ∙ ap (λ n. (i + 1) * n) even ∙ mul-add (i + 1) (byteAt s i) (byteAt s j) in
         let moved : sumB twice + (j - i) * byteAt s j ≡ sumB s + (j - i) * w = omega (arith, b-moved s (p .long) i v (omega arith), b-moved once long j w h, ap (λ x. (j + 1) * x) there, alike, further (byteAt s j), further w) in
-        let second : w ≡ byteAt s j = moved-back (sumB s) (sumB twice) (j - i) (byteAt s j) w (in-b (j - i) (omega arith) (omega arith)) (omega (arith, p .bytes j)) (omega arith) moved (leaves-b s twice p q (behind (checksStart + 2) (omega arith))) in
+        let second : w ≡ byteAt s j = moved-back (sumB s) (sumB twice) (j - i) (byteAt s j) w (in-b (j - i) (omega arith) (omega arith)) (omega (arith, p .bytes j)) (omega arith) moved (leaves-b s twice p q (untouched (checksStart + 2) (omega arith) (λ y a b e. omega arith))) in
         let first : v ≡ byteAt s i = omega arith in
         ap (λ l. set l j w) (unchanged s i v first) ∙ unchanged s j w second
 
@@ -125,8 +126,8 @@ module _ (s : List ℕ) (p : Passes s) (i j v w : ℕ) (order : i < j) (small-v 
     across h k =
         let still : take checksStart twice ≡ take checksStart once = take-set-le checksStart once j w k in
         let first : v ≡ byteAt s i = elim (decLt j (checksStart + 2)) [
-          | yes m ↦ b-finds s p i v small-v h (ap (λ body. weighedSum 0 body % modulus) (sym still) ∙ leaves-b s twice p q (behind (checksStart + 2) m))
-          | no m ↦ a-finds s p i v small-v h (ap (λ body. plainSum body % modulus) (sym still) ∙ leaves-a s twice p q (between checksStart h (omega arith)))
+          | yes m ↦ b-finds s p i v small-v h (ap (λ body. weighedSum 0 body % modulus) (sym still) ∙ leaves-b s twice p q (untouched (checksStart + 2) (omega arith) (λ y a b e. omega arith)))
+          | no m ↦ a-finds s p i v small-v h (ap (λ body. plainSum body % modulus) (sym still) ∙ leaves-a s twice p q (untouched checksStart h (λ y a b e. omega arith)))
         ] in
         same-block s twice p q (still ∙ ap (take checksStart) (unchanged s i v first))
 

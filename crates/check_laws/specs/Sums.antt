@@ -1,10 +1,10 @@
 -- How the two sums of a block move when one of its bytes does: A's by the difference, B's by the difference times the byte's weight.
-use mathlib.Core.Path.{_≡_, refl, sym, ap, _∙_}
+use mathlib.Core.Path.{_≡_, refl, ap}
 use mathlib.Core.List.{List, [], _∷_}
-use Prim.Native.Nat.{ℕ, zero, suc, _+_, _*_, _<_, _≤_}
+use Prim.Native.Nat.{ℕ, zero, suc, _+_, _*_, _<_}
 use native.Mathlib.Nat.{zero-add}
 use native.Mathlib.Omega.{arith}
-use lib.ListN.{length, take, set, getD}
+use lib.ListN.{length, take, set}
 use lib.Seq.{length-take-le, take-set-lt, getD-take}
 use Rattle.paper.specs.Block.{blockBytes, checksStart, plainSum, weighedSum, byteAt}
 
@@ -18,7 +18,7 @@ module _ (weight : ℕ → ℕ) (sum : ℕ → List ℕ → ℕ) (more : (f v : 
       let behind = sum-moved s (f + 1) i v (omega arith) in
       omega (arith, more f x (set s i v), more f x s, behind, ap (λ n. weight n * byteAt s i) here, ap (λ n. weight n * v) here)
 
--- what A and B leave the modulus to
+-- the two sums of a block, before the modulus
 abbrev pub sumA : List ℕ → ℕ
 sumA block = plainSum (take checksStart block)
 

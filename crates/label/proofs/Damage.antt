@@ -1,21 +1,22 @@
--- What is shown of a damaged record. A block that the single-block check refuses as 8 ends the record there: what is decoded and shown
--- is what is decoded and shown of the record cut before it, of which demand 3 speaks; and if it is block 0, nothing is.
--- check_laws/specs/Caught.antt has the damage that is refused so: one or two bytes changed, two bytes exchanged.
-use mathlib.Core.Path.{_≡_, refl, ap, _∙_, sym}
+-- What is shown of a damaged record. A block that the check catches ends the record there: what is decoded and shown is what is
+-- decoded and shown of the record cut before it, of which demand 3 speaks where that is one coding's; and if it is block 0, nothing is.
+-- check_laws/specs/Caught.antt says what is caught: one or two bytes changed, two unequal bytes exchanged.
+use mathlib.Core.Path.{_≡_, refl, ap}
 use mathlib.Core.List.{List}
 use Prim.Native.Nat.{ℕ, _*_, _<_}
 use lib.IntN.{ℤ}
-use lib.ListN.{length, take}
+use lib.ListN.{take}
 use Rattle.paper.specs.Block.{blockBytes}
-use Rattle.paper.specs.Jobs.{Read, readingJob, checkJob}
+use Rattle.paper.specs.Jobs.{Read, readRefused, readingJob}
+use Rattle.check_laws.specs.Damage.{Caught}
 use Rattle.record_laws.specs.Damaged.{withBlock}
-use Rattle.record_laws.specs.ReadDamaged.{readFirst, read-cut-there, first-damaged, later-damaged}
+use Rattle.record_laws.specs.ReadDamaged.{Comes, read-cut-there, first-damaged, later-damaged}
 use Rattle.label.specs.Journey.{Seen, outOfRecord}
 
--- block i of a record of which it is kept, replaced by one that the check refuses as 8
-module _ (s label payload : List ℕ) (i : ℕ) (kept : i < (readingJob s label payload) .blocks) (block : List ℕ) (long : length block ≡ blockBytes) (bad : checkJob block ≡ 8) where
-  pub block-0-damaged : i ≡ 0 → (readingJob (withBlock i block s) label payload) .refusal ≡ 8
-  block-0-damaged e = ap (λ (r : Read). r .refusal) (first-damaged s label payload i kept block long bad e)
+-- block i of a record, to which the reading job comes, replaced by one that the check catches
+module _ (s label payload : List ℕ) (i : ℕ) (comes : Comes s label payload i) (block : List ℕ) (caught : Caught block) where
+  pub block-0-damaged : i ≡ 0 → readingJob (withBlock i block s) label payload ≡ readRefused payload 8
+  block-0-damaged = first-damaged s label payload i comes block caught
 
   module _ (some : 0 < i) (numbers : List ℤ) (picture : List ℕ) (room : List ℤ) where
     abbrev damaged : Seen
@@ -27,9 +28,9 @@ module _ (s label payload : List ℕ) (i : ℕ) (kept : i < (readingJob s label 
     pub damaged-ended : (damaged .read .blocks ≡ i) × (damaged .read .ended ≡ 8)
     unfolding outOfRecord
     damaged-ended =
-        let e = later-damaged s label payload i kept block long bad some in
+        let e = later-damaged s label payload i comes block caught some in
         (ap (λ (r : Read). r .blocks) e, ap (λ (r : Read). r .ended) e)
 
     pub damaged-shows-cut : (damaged .decoded ≡ cut .decoded) × (damaged .rebuilt ≡ cut .rebuilt)
     unfolding outOfRecord
-    damaged-shows-cut = rw (later-damaged s label payload i kept block long bad some, read-cut-there s label payload i kept some) (refl, refl)
+    damaged-shows-cut = rw (later-damaged s label payload i comes block caught some, read-cut-there s label payload i comes some) (refl, refl)

@@ -71,8 +71,8 @@ pub fn read(blocks: &[u8], label: &[u8], room: &mut [u8]) -> Kept
     record::read(blocks, label, room)
 }
 
-// Judges a single block: 0, or 6, 8 or 9. A block whose checks were right, with one or two bytes changed or two exchanged,
-// is answered 8 (check_laws/specs/Caught.antt).
+// Judges a single block: 0, or 6, 8 or 9. A block whose checks were right, with one or two bytes changed in place or two
+// unequal ones exchanged, is answered 8 (check_laws/specs/Caught.antt).
 pub fn check(block: &[u8]) -> u32
     ensures { λ r. ⌜ r ≡ checkJob (now (block .entry)) ⌝ }
 {

@@ -148,10 +148,13 @@ readRun s room run = record {
   room = over (payloadKept payloadStart s (run .kept)) room;
 }
 
+abbrev pub readRefused : List ℕ → ℕ → Read
+readRefused room r = record { refusal = r; k = 0; L = 0; n = 0; blocks = 0; bits = 0; ended = 0; room = room }
+
 unfoldable pub readingJob : List ℕ → List ℕ → List ℕ → Read
 readingJob s label room =
     judged (readingRefusal s label room)
-    (λ r. record { refusal = r; k = 0; L = 0; n = 0; blocks = 0; bits = 0; ended = 0; room = room })
+    (readRefused room)
     (readRun s room (runOf payloadStart s label))
 
 -- ---- single-block check: 0, or 6, 8 or 9; it doesn't judge 10

@@ -11,7 +11,7 @@ use Rattle.paper.specs.Sizes.{unless, judged}
 use Rattle.paper.specs.Lists.{Bytes, over}
 use Rattle.paper.specs.Block.{isLabel, byteAt, blockBytes, payloadStart, payloadBytes, payloadBits, numberedBlocks}
 use Rattle.paper.specs.Record.{wholeBlocks, refusalAt, runOf, bitsKept, payloadKept}
-use Rattle.paper.specs.Jobs.{readingRefusal, readRun, readingJob}
+use Rattle.paper.specs.Jobs.{readingRefusal, readRefused, readRun, readingJob}
 use Rattle.sizes.proofs.Ranges.{both-first, both-second}
 use Rattle.sizes.proofs.Refusals.{row-passed, refused-is, done-is}
 use Rattle.record_laws.specs.Turn.{kept-numbered, kept-within, bits-kept-most, block-0-passes, block-0-refused}
@@ -42,9 +42,9 @@ module _ (s label room : List ℕ) where
         let both = row-passed 5 (leb blockBytes (length s) && leb (payloadBytes payloadStart * wholeBlocks s) (length room)) (unless 7 (isLabel label) 0) passed in
         (leb-true _ _ (both-first (leb blockBytes (length s)) (leb (payloadBytes payloadStart * wholeBlocks s) (length room)) both), leb-true _ _ (both-second (leb blockBytes (length s)) (leb (payloadBytes payloadStart * wholeBlocks s) (length room)) both))
 
-  pub read-refused : (r : ℕ) → readingRefusal s label room ≡ r → 0 < r → readingJob s label room ≡ record { refusal = r; k = 0; L = 0; n = 0; blocks = 0; bits = 0; ended = 0; room = room }
+  pub read-refused : (r : ℕ) → readingRefusal s label room ≡ r → 0 < r → readingJob s label room ≡ readRefused room r
   unfolding readingJob
-  read-refused r e h = ap (λ q. judged q (λ r. record { refusal = r; k = 0; L = 0; n = 0; blocks = 0; bits = 0; ended = 0; room = room }) (readRun s room (runOf payloadStart s label))) e ∙ refused-is r _ _ h
+  read-refused r e h = ap (λ q. judged q (readRefused room) (readRun s room (runOf payloadStart s label))) e ∙ refused-is r _ _ h
 
   module _ (kept ended : ℕ) (run : runOf payloadStart s label ≡ record { kept = kept; ended = ended }) where
     kept-is : (runOf payloadStart s label) .kept ≡ kept

@@ -1,104 +1,128 @@
--- A record of which one block is so damaged that the check catches it: the blocks before it are kept, and it ends the run as 8.
-use mathlib.Core.Path.{_≡_, refl, sym, ap, _∙_}
+-- A record of which one block is so damaged that the check catches it: it is not kept, and where the run comes to it, it ends the run as 8.
+use mathlib.Core.Path.{_≡_, sym, ap, _∙_}
 use mathlib.Core.Bool.{true}
 use mathlib.Core.List.{List, _++_}
 use mathlib.Core.Logic.{_≢_}
-use Prim.Native.Nat.{ℕ, zero, suc, _+_, _*_, _-_, _/_, _<_, _≤_}
+use Prim.Native.Nat.{ℕ, suc, _+_, _*_, _<_, _≤_}
 use native.Mathlib.Omega.{arith}
 use native.Mathlib.Decide.{decLt}
-use lib.Dec.{eqb}
-use lib.ListN.{length, take, drop, length-append, length-drop, length-set}
-use lib.Seq.{length-take-le, take-at, drop-at, take-append-le, drop-append-le}
-use Rattle.paper.specs.Sizes.{unless}
+use lib.ListN.{length, take, drop, set, length-append, length-take, length-drop, take-append-drop}
+use lib.Seq.{length-take-le, take-at, drop-at, take-append-le, drop-append-le, drop-drop, set-append-left, take-set-le, drop-set-add}
 use Rattle.paper.specs.Lists.{Bytes}
 use Rattle.paper.specs.Block.{blockBytes, byteAt, blockRefusal}
 use Rattle.paper.specs.Record.{wholeBlocks, blockAt, said, turnRefusal, refusalAt, isFull, runOf}
 use Rattle.list_laws.specs.Parts.{part-of-front}
 use Rattle.block.proofs.Blocks.{length-of-passed, checks-of-passed}
-use Rattle.check_laws.specs.Damage.{Passes, changed, exchanged}
+use Rattle.check_laws.specs.Damage.{Passes, Caught, changed, exchanged}
 use Rattle.check_laws.specs.Caught.{one-byte-changed, two-bytes-changed, two-bytes-exchanged}
 use Rattle.record_laws.specs.Kept.{LastFull, run-longest}
-use Rattle.record_laws.specs.Turn.{block-bytes, block-kept, kept-within}
+use Rattle.record_laws.specs.Turn.{block-bytes, block-kept}
+use Rattle.record_laws.specs.Ended.{whole-block}
 
+-- ---- the words
 -- block i of a record, replaced
 abbrev pub withBlock : ℕ → List ℕ → List ℕ → List ℕ
 withBlock i block s = take (blockBytes * i) s ++ (block ++ drop (blockBytes * suc i) s)
 
+-- the run comes to block i: each before it can be kept in its turn, and is full
+pub record Reached (start : ℕ) (s label : List ℕ) (i : ℕ) : Type 0 where
+  pub passes : (j : ℕ) → j < i → refusalAt start s label j ≡ 0
+  pub full : (j : ℕ) → j < i → isFull start (blockAt s j) ≡ true
+
+-- a block that was kept: the run came to it, and it passes
+module _ (start : ℕ) (s label : List ℕ) (i : ℕ) where
+  pub kept-reached : i < (runOf start s label) .kept → Reached start s label i
+  kept-reached h =
+      let g = run-longest start s label (wholeBlocks s) 0 in
+      record { passes = λ j k. g .passes j (omega arith) (omega arith); full = λ j k. g .full j (omega arith) (omega arith) }
+
+  pub kept-passes : Bytes s → i < (runOf start s label) .kept → Passes (blockAt s i)
+  kept-passes bytes h =
+      let own = block-kept start s label i (run-longest start s label (wholeBlocks s) 0 .passes i (omega arith) h) .passes in
+      record { long = length-of-passed start (blockAt s i) own; bytes = block-bytes s bytes i; right = checks-of-passed start (blockAt s i) own }
+
+-- ---- the record with that block
+module _ (s : List ℕ) (i : ℕ) (h : i < wholeBlocks s) where
+  front-long : length (take (blockBytes * i) s) ≡ blockBytes * i
+  front-long = length-take-le (blockBytes * i) s (omega arith)
+
+  module _ (block : List ℕ) (long : length block ≡ blockBytes) where
+    pub new-length : length (withBlock i block s) ≡ length s
+    new-length = length-append (take (blockBytes * i) s) _ ∙ omega (arith, length-append block (drop (blockBytes * suc i) s), length-drop (blockBytes * suc i) s, front-long, long)
+
+    pub block-there : blockAt (withBlock i block s) i ≡ block
+    block-there = ap (take blockBytes) (drop-at (take (blockBytes * i) s) _ (blockBytes * i) front-long) ∙ take-at block _ blockBytes long
+
+    pub blocks-before : (j : ℕ) → j < i → blockAt (withBlock i block s) j ≡ blockAt s j
+    blocks-before j k =
+        let front = take (blockBytes * i) s in
+        let enough : blockBytes ≤ length (drop (blockBytes * j) front) = omega (arith, length-drop (blockBytes * j) front, front-long) in
+        ap (take blockBytes) (drop-append-le (blockBytes * j) front _ (omega (arith, front-long)))
+        ∙ take-append-le blockBytes (drop (blockBytes * j) front) _ enough
+        ∙ part-of-front (blockBytes * j) blockBytes (blockBytes * i) s (omega arith)
+
+  -- byte j of block i is byte 512 i + j of the record
+  pub changed-in-place : (j v : ℕ) → j < blockBytes → withBlock i (changed j v (blockAt s i)) s ≡ changed (blockBytes * i + j) v s
+  changed-in-place j v k =
+      let new = set s (blockBytes * i + j) v in
+      let behind : drop blockBytes (drop (blockBytes * i) s) ≡ drop (blockBytes * suc i) s = drop-drop blockBytes (blockBytes * i) s ∙ ap (λ n. drop n s) (let e : blockBytes * i + blockBytes ≡ blockBytes * suc i = omega arith in e) in
+      let parted : drop (blockBytes * i) s ≡ blockAt s i ++ drop (blockBytes * suc i) s = sym (take-append-drop blockBytes (drop (blockBytes * i) s)) ∙ ap (λ tail. blockAt s i ++ tail) behind in
+      let tail : drop (blockBytes * i) new ≡ set (blockAt s i) j v ++ drop (blockBytes * suc i) s =
+      drop-set-add (blockBytes * i) s j v ∙ ap (λ l. set l j v) parted ∙ set-append-left (blockAt s i) _ j v (omega (arith, whole-block s i h)) in
+      sym (λ z. take-set-le (blockBytes * i) s (blockBytes * i + j) v (omega arith) z ++ tail z) ∙ take-append-drop (blockBytes * i) new
+
+-- ---- the run
 -- its own refusal comes before its turn
 turn-8 : (start : ℕ) (first label : List ℕ) (i : ℕ) (block : List ℕ) → blockRefusal start block ≡ 8 → turnRefusal start first label i block ≡ 8
 unfolding turnRefusal
 turn-8 start first label i block bad = rw bad
 
-module _ (s label : List ℕ) (i : ℕ) (h : i < wholeBlocks s) (block : List ℕ) (long : length block ≡ blockBytes) where
+module _ (s : List ℕ) (i : ℕ) (h : i < wholeBlocks s) (block : List ℕ) (caught : Caught block) (start : ℕ) (label : List ℕ) where
   abbrev new : List ℕ
   new = withBlock i block s
 
-  front-long : length (take (blockBytes * i) s) ≡ blockBytes * i
-  front-long = length-take-le (blockBytes * i) s (omega arith)
+  pub refused-there : refusalAt start new label i ≡ 8
+  refused-there = turn-8 start (said (blockAt new 0)) label i (blockAt new i) (ap (blockRefusal start) (block-there s i h block (caught .long)) ∙ caught .refused start)
 
-  pub new-length : length new ≡ length s
-  new-length = length-append (take (blockBytes * i) s) _ ∙ omega (arith, length-append block (drop (blockBytes * suc i) s), length-drop (blockBytes * suc i) s, front-long, long)
+  pub as-before : (j : ℕ) → j < i → refusalAt start new label j ≡ refusalAt start s label j
+  as-before j k = λ z. turnRefusal start (said (blocks-before s i h block (caught .long) 0 (omega arith) z)) label j (blocks-before s i h block (caught .long) j k z)
 
-  pub block-there : blockAt new i ≡ block
-  block-there = ap (take blockBytes) (drop-at (take (blockBytes * i) s) _ (blockBytes * i) front-long) ∙ take-at block _ blockBytes long
+  -- whatever the other blocks are, it is not kept
+  pub not-kept : (runOf start new label) .kept ≤ i
+  not-kept = elim (decLt i ((runOf start new label) .kept)) [
+    | yes k ↦ absurd (let z : _≡_ {A = ℕ} 8 0 = sym refused-there ∙ run-longest start new label (wholeBlocks new) 0 .passes i (omega arith) k in omega arith)
+    | no k ↦ omega arith
+  ]
 
-  pub blocks-before : (j : ℕ) → j < i → blockAt new j ≡ blockAt s j
-  blocks-before j k =
-      let front = take (blockBytes * i) s in
-      let enough : blockBytes ≤ length (drop (blockBytes * j) front) = omega (arith, length-drop (blockBytes * j) front, front-long) in
-      ap (take blockBytes) (drop-append-le (blockBytes * j) front _ (omega (arith, front-long)))
-      ∙ take-append-le blockBytes (drop (blockBytes * j) front) _ enough
-      ∙ part-of-front (blockBytes * j) blockBytes (blockBytes * i) s (omega arith)
+  -- where the run comes to it, it ends the run as 8
+  pub ends-as-8 : Reached start s label i → runOf start new label ≡ record { kept = i; ended = 8 }
+  ends-as-8 r =
+      let g = run-longest start new label (wholeBlocks new) 0 in
+      let kept = (runOf start new label) .kept in
+      let left : kept < 0 + wholeBlocks new = omega (arith, not-kept, new-length s i h block (caught .long)) in
+      let full : LastFull start new 0 kept = λ j _ e. ap (isFull start) (blocks-before s i h block (caught .long) j (omega (arith, not-kept))) ∙ r .full j (omega (arith, not-kept)) in
+      let here : kept ≡ i = elim (decLt kept i) [
+        | yes m ↦ absurd (g .fails left full (sym (g .next left full) ∙ as-before kept m ∙ r .passes kept m))
+        | no m ↦ omega (arith, not-kept)
+      ] in
+      let eight = sym (g .next left full) ∙ ap (refusalAt start new label) here ∙ refused-there in
+      λ z. record { kept = here z; ended = eight z }
 
-  module _ (start : ℕ) (bad : blockRefusal start block ≡ 8) where
-    pub refused-there : refusalAt start new label i ≡ 8
-    refused-there = turn-8 start (said (blockAt new 0)) label i (blockAt new i) (ap (blockRefusal start) block-there ∙ bad)
-
-    pub as-before : (j : ℕ) → j < i → refusalAt start new label j ≡ refusalAt start s label j
-    as-before j k = (λ z. turnRefusal start (said (blocks-before 0 (omega arith) z)) label j (blocks-before j k z))
-
-    -- whatever the other blocks are, it is not kept
-    pub not-kept : (runOf start new label) .kept ≤ i
-    not-kept = elim (decLt i ((runOf start new label) .kept)) [
-      | yes k ↦ absurd (let z : _≡_ {A = ℕ} 8 0 = sym refused-there ∙ run-longest start new label (wholeBlocks new) 0 .passes i (omega arith) k in omega arith)
-      | no k ↦ omega arith
-    ]
-
-    -- where it was kept it ends the run, as 8
-    pub ends-as-8 : i < (runOf start s label) .kept → runOf start new label ≡ record { kept = i; ended = 8 }
-    ends-as-8 k =
-        let old = run-longest start s label (wholeBlocks s) 0 in
-        let g = run-longest start new label (wholeBlocks new) 0 in
-        let kept = (runOf start new label) .kept in
-        let left : kept < 0 + wholeBlocks new = omega (arith, not-kept, new-length) in
-        let full : LastFull start new 0 kept = λ j _ e. ap (isFull start) (blocks-before j (omega (arith, not-kept))) ∙ old .full j (omega arith) (omega (arith, not-kept)) in
-        let here : kept ≡ i = elim (decLt kept i) [
-          | yes m ↦ absurd (g .fails left full (sym (g .next left full) ∙ as-before kept m ∙ old .passes kept (omega arith) (omega arith)))
-          | no m ↦ omega (arith, not-kept)
-        ] in
-        let eight = sym (g .next left full) ∙ ap (refusalAt start new label) here ∙ refused-there in
-        λ z. record { kept = here z; ended = eight z }
-
--- ---- what the check catches, in block i of a record of which it was kept
-module _ (start : ℕ) (s label : List ℕ) (bytes : Bytes s) (i : ℕ) (kept : i < (runOf start s label) .kept) where
+-- ---- what the check catches, in block i of a record
+module _ (start : ℕ) (s label : List ℕ) (i : ℕ) (passes : Passes (blockAt s i)) (reached : Reached start s label i) where
   within : i < wholeBlocks s
-  within = omega (arith, kept, kept-within start s label)
+  within = omega (arith, passes .long, length-take blockBytes (drop (blockBytes * i) s), length-drop (blockBytes * i) s)
 
-  passes : Passes (blockAt s i)
-  passes =
-      let own = block-kept start s label i (run-longest start s label (wholeBlocks s) 0 .passes i (omega arith) kept) .passes in
-      record { long = length-of-passed start (blockAt s i) own; bytes = block-bytes s bytes i; right = checks-of-passed start (blockAt s i) own }
-
-  caught : (block : List ℕ) → length block ≡ length (blockAt s i) → blockRefusal start block ≡ 8 → runOf start (withBlock i block s) label ≡ record { kept = i; ended = 8 }
-  caught block same bad = ends-as-8 s label i within block (same ∙ passes .long) start bad kept
+  ends : (block : List ℕ) → Caught block → runOf start (withBlock i block s) label ≡ record { kept = i; ended = 8 }
+  ends block caught = ends-as-8 s i within block caught start label reached
 
   pub run-one-byte-changed : (j v : ℕ) → j < blockBytes → v < 256 → v ≢ byteAt (blockAt s i) j → runOf start (withBlock i (changed j v (blockAt s i)) s) label ≡ record { kept = i; ended = 8 }
-  run-one-byte-changed j v h small other = caught _ (length-set (blockAt s i) j v) (one-byte-changed (blockAt s i) passes start j v h small other)
+  run-one-byte-changed j v h small other = ends _ (one-byte-changed (blockAt s i) passes j v h small other)
 
   pub run-two-bytes-changed : (j m v w : ℕ) → j < blockBytes → m < blockBytes → v < 256 → w < 256 → changed m w (changed j v (blockAt s i)) ≢ blockAt s i
       → runOf start (withBlock i (changed m w (changed j v (blockAt s i))) s) label ≡ record { kept = i; ended = 8 }
-  run-two-bytes-changed j m v w h k small-v small-w other = caught _ (length-set (changed j v (blockAt s i)) m w ∙ length-set (blockAt s i) j v) (two-bytes-changed (blockAt s i) passes start j m v w h k small-v small-w other)
+  run-two-bytes-changed j m v w h k small-v small-w other = ends _ (two-bytes-changed (blockAt s i) passes j m v w h k small-v small-w other)
 
   pub run-two-bytes-exchanged : (j m : ℕ) → j < blockBytes → m < blockBytes → byteAt (blockAt s i) j ≢ byteAt (blockAt s i) m
       → runOf start (withBlock i (exchanged j m (blockAt s i)) s) label ≡ record { kept = i; ended = 8 }
-  run-two-bytes-exchanged j m h k unequal = caught _ (length-set (changed j _ (blockAt s i)) m _ ∙ length-set (blockAt s i) j _) (two-bytes-exchanged (blockAt s i) passes start j m h k unequal)
+  run-two-bytes-exchanged j m h k unequal = ends _ (two-bytes-exchanged (blockAt s i) passes j m h k unequal)

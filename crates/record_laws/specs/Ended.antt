@@ -11,7 +11,7 @@ use borrow.Author.Tests.{eq-eqb, leb-true}
 use Rattle.paper.specs.Sizes.{unless, judged}
 use Rattle.paper.specs.Block.{isLabel, blockBytes, payloadBytes, payloadStart, checksRight, fieldsRight, blockRefusal}
 use Rattle.paper.specs.Record.{wholeBlocks, blockAt, said, inTurn, turnRefusal, refusalAt, isFull, Run, runFrom, runOf}
-use Rattle.paper.specs.Jobs.{Read, readingRefusal, readingJob}
+use Rattle.paper.specs.Jobs.{Read, readRefused, readingRefusal, readingJob}
 use Rattle.sizes.proofs.Ranges.{both-first}
 
 -- one of some numbers
@@ -61,11 +61,11 @@ module _ (start : ℕ) (s label : List ℕ) where
   run-ended-0-8-9-10 = ended-from (wholeBlocks s) 0 (omega arith)
 
 module _ (s label room : List ℕ) where
-  refusal-is : (r : ℕ) (done : Read) → done .refusal ≡ 0 → (judged r (λ r. record { refusal = r; k = 0; L = 0; n = 0; blocks = 0; bits = 0; ended = 0; room = room }) done) .refusal ≡ r
+  refusal-is : (r : ℕ) (done : Read) → done .refusal ≡ 0 → (judged r (readRefused room) done) .refusal ≡ r
   refusal-is zero done e = e
   refusal-is (suc r) done e = refl
 
-  ended-is : (r : ℕ) (done : Read) → Ended (done .ended) → Ended ((judged r (λ r. record { refusal = r; k = 0; L = 0; n = 0; blocks = 0; bits = 0; ended = 0; room = room }) done) .ended)
+  ended-is : (r : ℕ) (done : Read) → Ended (done .ended) → Ended ((judged r (readRefused room) done) .ended)
   ended-is zero done e = e
   ended-is (suc r) done e = inl refl
 

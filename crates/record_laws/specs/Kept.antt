@@ -1,11 +1,12 @@
 -- What the reader keeps, of any bytes at all: the longest run of blocks that pass, all full but possibly the last.
-use mathlib.Core.Path.{_≡_, refl, sym, _∙_, subst}
+use mathlib.Core.Path.{_≡_, refl, sym, ap, _∙_, subst}
 use mathlib.Core.Bool.{Bool, true, false}
 use mathlib.Core.List.{List}
 use Prim.Native.Nat.{ℕ, zero, suc, _+_, _<_, _≤_}
+use native.Mathlib.Nat.{zero-add}
 use native.Mathlib.Omega.{arith}
 use native.Mathlib.Decide.{decLt}
-use Rattle.paper.specs.Record.{blockAt, refusalAt, isFull, Run, runFrom}
+use Rattle.paper.specs.Record.{wholeBlocks, blockAt, refusalAt, isFull, Run, runFrom, runOf}
 
 -- of the blocks from i on the last kept one, if there is one, is full
 abbrev pub LastFull : ℕ → List ℕ → ℕ → ℕ → Type 0
@@ -108,3 +109,9 @@ module _ (start : ℕ) (s label : List ℕ) where
         | no h ↦ omega (arith, g .to)
       ] in
       λ t. record { kept = e t; ended = g .none e t }
+
+  pub whole-kept : (count : ℕ) → wholeBlocks s ≡ count → ((j : ℕ) → j < count → refusalAt start s label j ≡ 0) → ((j : ℕ) → suc j < count → isFull start (blockAt s j) ≡ true) → runOf start s label ≡ record { kept = count; ended = 0 }
+  whole-kept count e pass full =
+      ap (λ left. runFrom start s label left 0) e
+      ∙ all-kept count 0 (λ j h. pass j (omega arith)) (λ j h. full j (omega arith))
+      ∙ ap (λ kept. record { kept = kept; ended = 0 }) (zero-add count)

@@ -1,4 +1,4 @@
--- From lists in equal parts to what the reading job gives of a written record.
+-- From lists in equal parts to what the reading job gives of a written record, and of a damaged one.
 pub mod Kept
 pub mod Turn
 pub mod Ended

@@ -2,9 +2,8 @@
 use mathlib.Core.Path.{_≡_, refl, sym, ap, _∙_}
 use mathlib.Core.Bool.{Bool, true}
 use mathlib.Core.List.{List, [], _∷_, _++_, append-nil}
-use Prim.Native.Nat.{ℕ, zero, suc, _+_, _*_, _-_, _/_, _<_, _≤_, min}
+use Prim.Native.Nat.{ℕ, zero, suc, _+_, _*_, _/_, _<_, _≤_, min}
 use native.Mathlib.Decide.{decLe}
-use native.Mathlib.Nat.{zero-add}
 use native.Mathlib.Omega.{arith}
 use lib.ListN.{length, take, drop, getD, length-take}
 use lib.Seq.{getD-take, take-all, take-length, length-take-le}
@@ -12,12 +11,12 @@ use borrow.Author.Tests.{eq-eqb, le-leb}
 use Rattle.paper.specs.Lists.{joined, parts, over}
 use Rattle.paper.specs.Bits.{bits, packed}
 use Rattle.paper.specs.Block.{byteAt, edition, blockBytes, payloadStart, payloadBytes, payloadBits, numberedBlocks, countOf, payloadOf}
-use Rattle.paper.specs.Record.{blocksOf, blocksFor, blockOf, recordOf, wholeBlocks, blockAt, inTurn, turnRefusal, refusalAt, isFull, runFrom, runOf, bitsKept, payloadKept}
+use Rattle.paper.specs.Record.{blocksOf, blocksFor, blockOf, recordOf, wholeBlocks, blockAt, inTurn, turnRefusal, refusalAt, isFull, runOf, bitsKept, payloadKept}
 use Rattle.paper.specs.Sizes.{judged}
-use Rattle.paper.specs.Jobs.{Read, readingRefusal, readRun, readingJob}
+use Rattle.paper.specs.Jobs.{Read, readRefused, readingRefusal, readRun, readingJob}
 use Rattle.block.proofs.Blocks.{label-length, same-bytes-refl}
 use Rattle.list_laws.specs.Joined.{length-joined, part-joined, joined-same}
-use Rattle.record_laws.specs.Kept.{all-kept}
+use Rattle.record_laws.specs.Kept.{whole-kept}
 use Rattle.list_laws.specs.Parts.{part-of-front}
 use Rattle.record_laws.specs.Packing.{take-packed, packed-take, packed-joined, bits-back}
 use Rattle.record_laws.specs.Counts.{blocks-hold, blocks-numbered, bits-more, bits-full, bytes-few, bytes-filled}
@@ -146,7 +145,7 @@ module _ (start : ℕ) (extra : List ℕ) (k L n : ℕ) (label : List ℕ) (l : 
     byte-is i h = sym (getD-take blockBytes s i 0 (omega arith)) ∙ sym (getD-take 12 (take blockBytes s) i 0 h) ∙ ap (λ b. getD b i 0) (ap (take 12) (same 0 some) ∙ front-of-block start extra k L n label l w 0)
 
     pub written-run : wholeBlocks s ≡ j → runOf start s label ≡ record { kept = j; ended = 0 }
-    written-run e = ap (λ left. runFrom start s label left 0) e ∙ all-kept start s label j 0 (λ i h. written-turn i (omega arith)) (λ i h. written-full i (omega arith)) ∙ ap (λ kept. record { kept = kept; ended = 0 }) (zero-add j)
+    written-run e = whole-kept start s label j e written-turn written-full
 
     pub written-kept : wholeBlocks s ≡ j → KeptBack start l label s j
     written-kept e = record {
@@ -193,7 +192,7 @@ module _ (k L n : ℕ) (label : List ℕ) (l : List Bool) (w : Writable payloadS
     read-front =
         let kept = written-kept payloadStart [] k L n label l w s j some most same e in
         let byte = byte-is payloadStart [] k L n label l w s j some most same in
-        ap (λ r. judged r (λ r. record { refusal = r; k = 0; L = 0; n = 0; blocks = 0; bits = 0; ended = 0; room = room }) (readRun s room (runOf payloadStart s label))) not-refused
+        ap (λ r. judged r (readRefused room) (readRun s room (runOf payloadStart s label))) not-refused
         ∙ ap (readRun s room) (kept .run)
         ∙ (λ t. record {
           refusal = 0;

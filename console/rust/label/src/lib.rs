@@ -240,7 +240,8 @@ pub fn read(blocks: &[u8], label: &[u8], room: &mut [u8]) -> Result<Kept, Refusa
     raw::read(blocks, label, room).result()
 }
 
-/// Judges one block, but neither its number nor whose label it has.
+/// Judges one block, but neither its number nor whose label it has. If its checks were right, and one or two of its bytes
+/// were changed in place since, or two unequal ones exchanged, it is always [`Damaged`](Refusal::Damaged).
 ///
 /// # Errors
 /// [`Room`](Refusal::Room) (not 512 bytes), [`Damaged`](Refusal::Damaged), [`Fields`](Refusal::Fields).
