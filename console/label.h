@@ -197,8 +197,9 @@ struct label_kept label_read(const uint8_t *blocks, size_t blocks_count,
                              const uint8_t *label, size_t label_count,
                              uint8_t *room, size_t room_count);
 
-/* Judges one block, but not its number: 0, 6, 8 or 9. If its checks were right, and one or two of its bytes were changed
-   in place since, or two unequal ones exchanged, it is always 8; if three were, not always (docs/FORMAT.md). */
+/* Judges one block, but not its number: 0, 6, 8 or 9. If its checks were right, and one or two of its bytes
+   were changed in place since, or two unequal ones exchanged, it is always 8; if three were, not always
+   (docs/FORMAT.md). */
 uint32_t label_block_check(const uint8_t *block, size_t block_count);
 
 #ifdef __cplusplus

@@ -5,8 +5,10 @@
 
 mod library;
 
+use second::bits;
 use second::block::{self, Block, CHECK_A, CHECK_B, LABEL, LENGTH, PAYLOAD_BITS, PAYLOAD_LENGTH};
 use second::random::Random;
+use second::record;
 use second::samples;
 use second::show;
 use second::sizes::{most_levels, Sizes, LARGEST_K, MOST_PLANES, SMALLEST_K};
@@ -139,11 +141,18 @@ fn every_plane_count(comparison: &mut Comparison, random: &mut Random, sizes: Si
     }
 }
 
+/// A record of so many bits, at side 32 with two levels and eight planes, and the bytes that hold the bits.
+fn a_record(random: &mut Random, label: &[u8], count: usize) -> (Vec<u8>, Vec<u8>) {
+    let bytes = random.bytes(bits::bytes_for(count as u64));
+    let mut record = vec![0; record::block_count(count as u64) as usize * LENGTH];
+    label::write(5, 2, 8, label, &bytes, count, &mut record).expect("there is room for its blocks");
+    (record, bytes)
+}
+
 /// A record of two blocks, of which each byte in turn is changed, or that ends after any of them.
 fn every_byte(comparison: &mut Comparison, random: &mut Random) {
-    let (label, mut record) = (b"00000417".to_vec(), vec![0; 1024]);
-    let bytes = random.bytes(600);
-    label::write(5, 2, 8, &label, &bytes, 4500, &mut record).expect("there is room for two blocks");
+    let label = b"00000417".to_vec();
+    let (record, _) = a_record(random, &label, 4500);
     for place in 0..1024 {
         let mut blocks = record.clone();
         blocks[place] ^= 1 << random.below(8);
@@ -164,9 +173,8 @@ fn every_byte(comparison: &mut Comparison, random: &mut Random) {
 
 /// Every byte in each place of a label, which is given to the writer or the reader, or stands in a block.
 fn every_character(comparison: &mut Comparison, random: &mut Random) {
-    let (right, mut record) = (b"0417AAL6".to_vec(), vec![0; 1024]);
-    let bytes = random.bytes(600);
-    label::write(5, 2, 8, &right, &bytes, 4500, &mut record).expect("there is room for two blocks");
+    let right = b"0417AAL6".to_vec();
+    let (record, bytes) = a_record(random, &right, 4500);
     for place in 0..8 {
         for byte in 0..=255 {
             let mut label = right.clone();
@@ -309,7 +317,7 @@ fn what_the_check_catches(comparison: &mut Comparison, random: &mut Random) -> C
             by_rule(changed, 8);
             caught.pairs += 1;
         }
-        // A byte and a check raised alike: they would agree again if the other check did not weigh that byte.
+        // A byte of the body and one of the checks raised alike: with byte 509 A is right again, and B alone tells.
         for place in 0..CHECK_A.start {
             for check in CHECK_A.start..LENGTH {
                 let mut changed = block;
@@ -341,9 +349,8 @@ fn what_the_check_catches(comparison: &mut Comparison, random: &mut Random) -> C
 /// A record of three blocks, one of them damaged in such ways: a reader keeps those before it and ends the run as 8, or
 /// refuses by 8 where none is before it. Gives how many were damaged.
 fn where_a_run_ends(comparison: &mut Comparison, random: &mut Random) -> u64 {
-    let (label, mut record) = (b"00000417".to_vec(), vec![0; 3 * LENGTH]);
-    let bytes = random.bytes(1200);
-    label::write(5, 2, 8, &label, &bytes, 9000, &mut record).expect("there is room for three blocks");
+    let label = b"00000417".to_vec();
+    let (record, _) = a_record(random, &label, 9000);
     let mut by_rule = |blocks: Vec<u8>, refusal, kept, ended| {
         let (label, room) = (label.clone(), 3 * PAYLOAD_LENGTH);
         let reading = Request::RecordReading { blocks, label, room };

@@ -39,15 +39,6 @@ bytes-set s i v h small bytes x = elim (ℕ-discrete x i) [
 ]
 
 module _ (block : List ℕ) (p : Passes block) where
-  -- One byte changed.
-  pub one-byte-changed : (i v : ℕ) → i < blockBytes → v < 256 → v ≢ byteAt block i → Caught (changed i v block)
-  one-byte-changed i v h small other =
-      let within : i < length block = omega (arith, p .long) in
-      let long : length (changed i v block) ≡ blockBytes = length-set block i v ∙ p .long in
-      caught (changed i v block) long
-      (λ right. let same = one-same block p i v small (record { long = long; bytes = bytes-set block i v within small (p .bytes); right = right }) in
-      other (sym (getD-set-same block i v 0 within) ∙ ap (λ s. byteAt s i) same))
-
   -- Two bytes changed, to anything that makes it another block.
   pub two-bytes-changed : (i j v w : ℕ) → i < blockBytes → j < blockBytes → v < 256 → w < 256 → changed j w (changed i v block) ≢ block → Caught (changed j w (changed i v block))
   two-bytes-changed i j v w h k small-v small-w other =
@@ -67,6 +58,12 @@ module _ (block : List ℕ) (p : Passes block) where
               one ∙ one-same block p i w small-w (subst Passes one q)
         ]
       ]
+
+  -- One byte changed.
+  pub one-byte-changed : (i v : ℕ) → i < blockBytes → v < 256 → v ≢ byteAt block i → Caught (changed i v block)
+  one-byte-changed i v h small other =
+      let there : byteAt (changed i v (changed i v block)) i ≡ v = getD-set-same (changed i v block) i v 0 (omega (arith, length-set block i v, p .long)) in
+      subst Caught (set-set block i v v) (two-bytes-changed i i v v h h small small (λ same. other (sym there ∙ ap (λ s. byteAt s i) same)))
 
   -- Two unequal bytes exchanged.
   pub two-bytes-exchanged : (i j : ℕ) → i < blockBytes → j < blockBytes → byteAt block i ≢ byteAt block j → Caught (exchanged i j block)

@@ -2,10 +2,9 @@
 use mathlib.Core.Path.{_≡_, refl}
 use mathlib.Core.Bool.{true, false}
 use mathlib.Core.List.{List}
-use Prim.Native.Nat.{ℕ, _≤_}
+use Prim.Native.Nat.{ℕ, zero, suc}
 use native.Mathlib.Omega.{arith}
-use native.Mathlib.Decide.{decLt}
-use lib.ListN.{length, set, replicate, length-replicate, getD-replicate, List·getD-eq-default}
+use lib.ListN.{length, set, replicate}
 use Rattle.paper.specs.Lists.{Bytes}
 use Rattle.paper.specs.Block.{blockBytes, payloadStart, byteAt, plainSum, weighedSum, checksRight, fieldsRight, blockRefusal}
 use Rattle.paper.specs.Cases.{block417}
@@ -35,15 +34,14 @@ pub record Caught (block : List ℕ) : Type 0 where
 abbrev zeros : List ℕ
 zeros = replicate blockBytes 0
 
-zero-bytes : Bytes zeros
-zero-bytes i = elim (decLt i blockBytes) [
-  | yes h ↦ rw (getD-replicate {A = ℕ} blockBytes i 0 0 h) (omega arith)
-  | no h ↦ rw (List·getD-eq-default zeros 0 (let e : length zeros ≤ i = omega (arith, length-replicate {A = ℕ} blockBytes 0) in e)) (omega arith)
-]
+zero-at : (n i : ℕ) → byteAt (replicate n 0) i ≡ 0
+zero-at zero i = refl
+zero-at (suc n) zero = refl
+zero-at (suc n) (suc i) = zero-at n i
 
 pub zeros-pass : Passes zeros × (blockRefusal payloadStart zeros ≡ 9)
 unfolding plainSum weighedSum checksRight fieldsRight blockRefusal
-zeros-pass = (record { long = refl; bytes = zero-bytes; right = refl }, refl)
+zeros-pass = (record { long = refl; bytes = λ i. rw (zero-at blockBytes i) (omega arith); right = refl }, refl)
 
 -- the flat block labelled 00000417: its byte 3 is 0x00, and its last, of check B, 0x54
 pub changed-seen : (byteAt (changed 511 0x55 block417) 510 ≡ 0x0D) × (byteAt (changed 511 0x55 block417) 511 ≡ 0x55)

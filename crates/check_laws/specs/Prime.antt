@@ -67,7 +67,7 @@ pub record Small (c top : ℕ) : Type 0 where
 pub in-a : Small 1 510
 in-a = record { some = omega arith; weight = omega arith; most = omega arith; product = omega arith }
 
--- in B a byte has its place's weight, and two that move by as much the way between them
+-- in B a byte has its place's weight, and two of which one rose as far as the other fell weigh the way between them
 pub in-b : (c : ℕ) → 0 < c → c ≤ checksStart → Small c 255
 in-b c some most = record { some = omega arith; weight = omega arith; most = omega arith; product = omega arith }
 

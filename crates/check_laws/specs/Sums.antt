@@ -33,11 +33,11 @@ weighed-more : (f v : ℕ) (s : List ℕ) → weighedSum f (v ∷ s) ≡ (f + 1)
 unfolding weighedSum
 weighed-more f v s = refl
 
-module _ (block : List ℕ) (long : length block ≡ blockBytes) (i v : ℕ) where
+module _ (block : List ℕ) (long : length block ≡ blockBytes) where
   body : length (take checksStart block) ≡ checksStart
   body = length-take-le checksStart block (omega arith)
 
-  module _ (h : i < checksStart) where
+  module _ (i v : ℕ) (h : i < checksStart) where
     here : byteAt (take checksStart block) i ≡ byteAt block i
     here = getD-take checksStart block i 0 h
 

@@ -6,22 +6,25 @@ use mathlib.Core.List.{List}
 use Prim.Native.Nat.{ℕ, _*_, _<_}
 use lib.IntN.{ℤ}
 use lib.ListN.{take}
+use Rattle.paper.specs.Sizes.{sizeIn}
 use Rattle.paper.specs.Block.{blockBytes}
-use Rattle.paper.specs.Jobs.{Read, readRefused, readingJob}
+use Rattle.paper.specs.Jobs.{Read, readRefused, sizesRefusal, decodingRefusal, decodingJob, inverseRefusal, inverseJob}
 use Rattle.check_laws.specs.Damage.{Caught}
 use Rattle.record_laws.specs.Damaged.{withBlock}
 use Rattle.record_laws.specs.ReadDamaged.{Comes, read-cut-there, first-damaged, later-damaged}
 use Rattle.label.specs.Journey.{Seen, outOfRecord}
 
 -- block i of a record, to which the reading job comes, replaced by one that the check catches
-module _ (s label payload : List ℕ) (i : ℕ) (comes : Comes s label payload i) (block : List ℕ) (caught : Caught block) where
-  pub block-0-damaged : i ≡ 0 → readingJob (withBlock i block s) label payload ≡ readRefused payload 8
-  block-0-damaged = first-damaged s label payload i comes block caught
+module _ (s label payload : List ℕ) (i : ℕ) (comes : Comes s label payload i) (block : List ℕ) (caught : Caught block) (numbers : List ℤ) (picture : List ℕ) (room : List ℤ) where
+  abbrev damaged : Seen
+  damaged = outOfRecord label (withBlock i block s) payload numbers picture room
 
-  module _ (some : 0 < i) (numbers : List ℤ) (picture : List ℕ) (room : List ℤ) where
-    abbrev damaged : Seen
-    damaged = outOfRecord label (withBlock i block s) payload numbers picture room
+  -- the reading is refused, and so are decoding and inverse: numbers and picture are what they were
+  pub block-0-damaged : i ≡ 0 → (damaged .read ≡ readRefused payload 8) × (damaged .decoded .numbers ≡ numbers) × (damaged .rebuilt .picture ≡ picture)
+  unfolding outOfRecord sizeIn sizesRefusal decodingRefusal decodingJob inverseRefusal inverseJob
+  block-0-damaged e = rw (first-damaged s label payload i comes block caught e) (refl, refl, refl)
 
+  module _ (some : 0 < i) where
     abbrev cut : Seen
     cut = outOfRecord label (take (blockBytes * i) s) payload numbers picture room
 

@@ -1,5 +1,5 @@
--- What was checked by hand: P1 to P11, one list under one claim, and with it two whole blocks, the checks of a full one, the label's
--- leading zeros and the characters that it may have.
+-- What was checked by hand: P1 to P11, one list under one claim, and with it two whole blocks, the checks of 508 bytes of 255, the
+-- label's leading zeros and the characters that it may have.
 -- Each is proved by computing what the definitions say.
 use mathlib.Core.Path.{_≡_, refl}
 use mathlib.Core.Bool.{Bool, true, false}
@@ -85,7 +85,7 @@ pub record Checked : Type 0 where
   pub zeros-kept : (readingJob block417 (0x34 ∷ 0x31 ∷ 0x37 ∷ []) (replicate 492 0x55)) .refusal ≡ 7
   pub block-L6 : writingJob 3 2 3 labelL6 (0xC0 ∷ 0x08 ∷ 0x00 ∷ []) 17 (replicate 514 0x55) ≡ record { refusal = 0; blocks = 1; room = blockL6 ++ 0x55 ∷ 0x55 ∷ [] }
   pub label-L6 : readingJob blockL6 labelL6 (replicate 492 0x55) ≡ record { refusal = 0; k = 3; L = 2; n = 3; blocks = 1; bits = 17; ended = 0; room = 0xC0 ∷ 0x08 ∷ 0x00 ∷ replicate 489 0x55 }
-  -- 508 bytes of 255, of which both sums pass the modulus: 129,540 and 32,967,930
+  -- 508 bytes of 255: both sums, 129,540 and 32,967,930, are beyond the modulus
   pub checks : sealed (replicate 508 0xFF) ≡ replicate 508 0xFF ++ 0xFA ∷ 0x13 ∷ 0x2A ∷ 0x73 ∷ []
   pub every-character : made 256 labelCharacter ≡ replicate 48 false ++ (replicate 10 true ++ (replicate 7 false ++ (replicate 26 true ++ replicate 165 false)))
   -- 0 9 A Z

@@ -43,14 +43,18 @@ module _ (start : ℕ) (s label : List ℕ) (i : ℕ) where
 
 -- ---- the record with that block
 module _ (s : List ℕ) (i : ℕ) (h : i < wholeBlocks s) where
-  front-long : length (take (blockBytes * i) s) ≡ blockBytes * i
+  -- what stands before it
+  pub front-long : length (take (blockBytes * i) s) ≡ blockBytes * i
   front-long = length-take-le (blockBytes * i) s (omega arith)
+
+  pub front-same : (j : ℕ) → j < i → blockAt (take (blockBytes * i) s) j ≡ blockAt s j
+  front-same j k = part-of-front (blockBytes * j) blockBytes (blockBytes * i) s (omega arith)
 
   module _ (block : List ℕ) (long : length block ≡ blockBytes) where
     pub new-length : length (withBlock i block s) ≡ length s
     new-length = length-append (take (blockBytes * i) s) _ ∙ omega (arith, length-append block (drop (blockBytes * suc i) s), length-drop (blockBytes * suc i) s, front-long, long)
 
-    pub block-there : blockAt (withBlock i block s) i ≡ block
+    block-there : blockAt (withBlock i block s) i ≡ block
     block-there = ap (take blockBytes) (drop-at (take (blockBytes * i) s) _ (blockBytes * i) front-long) ∙ take-at block _ blockBytes long
 
     pub blocks-before : (j : ℕ) → j < i → blockAt (withBlock i block s) j ≡ blockAt s j
@@ -59,7 +63,7 @@ module _ (s : List ℕ) (i : ℕ) (h : i < wholeBlocks s) where
         let enough : blockBytes ≤ length (drop (blockBytes * j) front) = omega (arith, length-drop (blockBytes * j) front, front-long) in
         ap (take blockBytes) (drop-append-le (blockBytes * j) front _ (omega (arith, front-long)))
         ∙ take-append-le blockBytes (drop (blockBytes * j) front) _ enough
-        ∙ part-of-front (blockBytes * j) blockBytes (blockBytes * i) s (omega arith)
+        ∙ front-same j k
 
   -- byte j of block i is byte 512 i + j of the record
   pub changed-in-place : (j v : ℕ) → j < blockBytes → withBlock i (changed j v (blockAt s i)) s ≡ changed (blockBytes * i + j) v s
@@ -72,6 +76,10 @@ module _ (s : List ℕ) (i : ℕ) (h : i < wholeBlocks s) where
       sym (λ z. take-set-le (blockBytes * i) s (blockBytes * i + j) v (omega arith) z ++ tail z) ∙ take-append-drop (blockBytes * i) new
 
 -- ---- the run
+-- where the first i blocks are the same, so are their refusals
+pub same-turn : (start : ℕ) (s t label : List ℕ) (i : ℕ) → ((j : ℕ) → j < i → blockAt t j ≡ blockAt s j) → (j : ℕ) → j < i → refusalAt start t label j ≡ refusalAt start s label j
+same-turn start s t label i same j h = λ z. turnRefusal start (said (same 0 (omega arith) z)) label j (same j h z)
+
 -- its own refusal comes before its turn
 turn-8 : (start : ℕ) (first label : List ℕ) (i : ℕ) (block : List ℕ) → blockRefusal start block ≡ 8 → turnRefusal start first label i block ≡ 8
 unfolding turnRefusal
@@ -85,7 +93,7 @@ module _ (s : List ℕ) (i : ℕ) (h : i < wholeBlocks s) (block : List ℕ) (ca
   refused-there = turn-8 start (said (blockAt new 0)) label i (blockAt new i) (ap (blockRefusal start) (block-there s i h block (caught .long)) ∙ caught .refused start)
 
   pub as-before : (j : ℕ) → j < i → refusalAt start new label j ≡ refusalAt start s label j
-  as-before j k = λ z. turnRefusal start (said (blocks-before s i h block (caught .long) 0 (omega arith) z)) label j (blocks-before s i h block (caught .long) j k z)
+  as-before = same-turn start s new label i (blocks-before s i h block (caught .long))
 
   -- whatever the other blocks are, it is not kept
   pub not-kept : (runOf start new label) .kept ≤ i

@@ -100,7 +100,7 @@ module _ (start : ℕ) (s label : List ℕ) where
       go (suc r) e f′ f g = refuses left i r e
 
   -- where every block passes, and each but the last is full, all are kept
-  pub all-kept : (left i : ℕ) → ((j : ℕ) → j < i + left → refusalAt start s label j ≡ 0) → ((j : ℕ) → suc j < i + left → isFull start (blockAt s j) ≡ true) → runFrom start s label left i ≡ record { kept = i + left; ended = 0 }
+  all-kept : (left i : ℕ) → ((j : ℕ) → j < i + left → refusalAt start s label j ≡ 0) → ((j : ℕ) → suc j < i + left → isFull start (blockAt s j) ≡ true) → runFrom start s label left i ≡ record { kept = i + left; ended = 0 }
   all-kept left i pass full =
       let g = run-longest left i in
       let run = runFrom start s label left i in

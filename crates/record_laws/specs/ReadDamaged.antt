@@ -7,21 +7,20 @@ use Prim.Native.Nat.{ℕ, zero, suc, _+_, _*_, _<_, _≤_}
 use native.Mathlib.Omega.{arith}
 use lib.Dec.{leb}
 use lib.ListN.{length, take}
-use lib.Seq.{length-take-le, getD-take}
+use lib.Seq.{getD-take}
 use borrow.Author.Tests.{le-leb, leb-true}
 use Rattle.paper.specs.Sizes.{judged}
 use Rattle.paper.specs.Lists.{parts, over}
 use Rattle.paper.specs.Block.{isLabel, byteAt, blockBytes, payloadStart, payloadBytes, payloadBits, countOf, payloadOf}
-use Rattle.paper.specs.Record.{wholeBlocks, blockAt, said, turnRefusal, refusalAt, isFull, runOf, bitsKept, payloadKept}
+use Rattle.paper.specs.Record.{wholeBlocks, blockAt, refusalAt, isFull, runOf, bitsKept, payloadKept}
 use Rattle.paper.specs.Jobs.{Read, readingRefusal, readRun, readRefused, readingJob}
 use Rattle.sizes.proofs.Ranges.{both-second}
 use Rattle.sizes.proofs.Refusals.{row-passed, rows-left, done-is}
 use Rattle.list_laws.specs.Joined.{joined-same}
-use Rattle.list_laws.specs.Parts.{part-of-front}
 use Rattle.check_laws.specs.Damage.{Caught}
 use Rattle.record_laws.specs.Kept.{whole-kept}
 use Rattle.record_laws.specs.Turn.{kept-within}
-use Rattle.record_laws.specs.Damaged.{withBlock, Reached, kept-reached, new-length, blocks-before, refused-there, as-before, ends-as-8}
+use Rattle.record_laws.specs.Damaged.{withBlock, Reached, kept-reached, front-long, front-same, new-length, blocks-before, same-turn, refused-there, as-before, ends-as-8}
 
 -- what is read of the first i blocks of s, and the number that ended the run
 abbrev pub readFirst : List ℕ → List ℕ → ℕ → ℕ → Read
@@ -81,7 +80,7 @@ kept-comes s label room i kept = go (readingRefusal s label room) refl kept
     go (suc r) passed h = absurd (omega arith)
 
 module _ (s label room : List ℕ) (i : ℕ) (comes : Comes s label room i) where
-  -- of no more bytes than s only block 0 can be refused
+  -- bytes with a whole block, and no longer than s, are refused for block 0 or not at all
   by-block-0 : (t : List ℕ) → blockBytes ≤ length t → length t ≤ length s → readingRefusal t label room ≡ refusalAt payloadStart t label 0
   unfolding readingRefusal
   by-block-0 t h k = rw (le-leb blockBytes (length t) h, le-leb (payloadBytes payloadStart * wholeBlocks t) (length room) (omega (arith, comes .fits)), comes .labelled)
@@ -92,13 +91,13 @@ module _ (s label room : List ℕ) (i : ℕ) (comes : Comes s label room i) wher
     cut = take (blockBytes * i) s
 
     cut-long : length cut ≡ blockBytes * i
-    cut-long = length-take-le (blockBytes * i) s (omega (arith, comes .within))
+    cut-long = front-long s i (comes .within)
 
     cut-same : (j : ℕ) → j < i → blockAt cut j ≡ blockAt s j
-    cut-same j h = part-of-front (blockBytes * j) blockBytes (blockBytes * i) s (omega arith)
+    cut-same = front-same s i (comes .within)
 
     cut-turn : (j : ℕ) → j < i → refusalAt payloadStart cut label j ≡ 0
-    cut-turn j h = (λ z. turnRefusal payloadStart (said (cut-same 0 some z)) label j (cut-same j h z)) ∙ comes .reached .passes j h
+    cut-turn j h = same-turn payloadStart s cut label i cut-same j h ∙ comes .reached .passes j h
 
     cut-run : runOf payloadStart cut label ≡ record { kept = i; ended = 0 }
     cut-run = whole-kept payloadStart cut label i (omega (arith, cut-long)) cut-turn (λ j h. ap (isFull payloadStart) (cut-same j (omega arith)) ∙ comes .reached .full j (omega arith))
