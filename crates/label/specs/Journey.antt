@@ -2,7 +2,7 @@
 use mathlib.Core.List.{List}
 use Prim.Native.Nat.{ℕ}
 use lib.IntN.{ℤ}
-use Rattle.paper.specs.Jobs.{Forward, forwardJob, Coding, codingJob, Decoding, decodingJob, Inverse, inverseJob, Writing, writingJob, Read, readingJob}
+use Rattle.paper.specs.Jobs.{Forward, forwardJob, Coding, codingJob, Decoding, decodingJob, Inverse, inverseJob, thumbnailJob, Writing, writingJob, Read, readingJob}
 
 -- forward, coding up to a bit limit, record writing
 unfoldable pub intoRecord : ℕ → ℕ → List ℕ → List ℕ → ℕ → List ℤ → List ℕ → List ℕ → Writing
@@ -17,9 +17,17 @@ pub record Seen : Type 0 where
   pub decoded : Decoding
   pub rebuilt : Inverse
 
--- record reading, decoding, inverse
-unfoldable pub outOfRecord : List ℕ → List ℕ → List ℕ → List ℤ → List ℕ → List ℤ → Seen
-outOfRecord label s payload numbers picture room =
+-- record reading, decoding, and the job that makes greys of what was decoded
+abbrev pub seenBy : (ℕ → ℕ → List ℤ → Inverse) → List ℕ → List ℕ → List ℕ → List ℤ → Seen
+seenBy rebuilds label s payload numbers =
     let r = readingJob s label payload in
     let d = decodingJob (r .k) (r .L) (r .n) numbers (r .room) (r .bits) in
-    record { read = r; decoded = d; rebuilt = inverseJob (r .k) (r .L) (d .numbers) picture room }
+    record { read = r; decoded = d; rebuilt = rebuilds (r .k) (r .L) (d .numbers) }
+
+-- the whole picture: inverse
+unfoldable pub outOfRecord : List ℕ → List ℕ → List ℕ → List ℤ → List ℕ → List ℤ → Seen
+outOfRecord label s payload numbers picture room = seenBy (λ k L decoded. inverseJob k L decoded picture room) label s payload numbers
+
+-- the picture with its side halved r times: thumbnail
+unfoldable pub thumbnailOutOfRecord : ℕ → List ℕ → List ℕ → List ℕ → List ℤ → List ℕ → List ℤ → Seen
+thumbnailOutOfRecord r label s payload numbers picture room = seenBy (λ k L decoded. thumbnailJob k L r decoded picture room) label s payload numbers

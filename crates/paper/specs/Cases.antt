@@ -1,22 +1,22 @@
--- What was checked by hand: P1 to P11, one list under one claim, and with it two whole blocks, the checks of 508 bytes of 255, the
--- label's leading zeros and the characters that it may have.
+-- What was checked by hand: P1 to P11, one list under one claim, and with it thumbnails, two whole blocks, the checks of 508 bytes of
+-- 255, the label's leading zeros and the characters that it may have.
 -- Each is proved by computing what the definitions say.
 use mathlib.Core.Path.{_≡_, refl}
 use mathlib.Core.Bool.{Bool, true, false}
 use mathlib.Core.List.{List, [], _∷_, _++_}
-use Prim.Native.Nat.{ℕ, suc, _+_, _*_}
+use Prim.Native.Nat.{ℕ, suc, _+_, _*_, _-_, _^_}
 use lib.ListN.{length, take, drop, getD, replicate}
 use lib.IntN.{ℤ, pos, negsuc}
-use Rattle.paper.specs.Sizes.{sizeIn, levelsIn, planesIn, numbersIn, mostBits}
+use Rattle.paper.specs.Sizes.{sizeIn, levelsIn, halvingsIn, planesIn, numbersIn, mostBits}
 use Rattle.paper.specs.Lists.{made, joined}
-use Rattle.paper.specs.Line.{highOf, lowOf, highAt, lowAt, lineForward}
+use Rattle.paper.specs.Line.{highOf, lowOf, highAt, lowAt, lineForward, oddOf, evenOf, evenAt, oddAt, woven, lineBack}
 use Rattle.paper.specs.Places.{interleaved, columnOf, rowOf, zOf, rasterOf}
-use Rattle.paper.specs.Square.{placeOf, lineOf, spotOf, line, along, levelForward, onFirst, levelsForward, lowered, numbersOf}
+use Rattle.paper.specs.Square.{placeOf, lineOf, spotOf, line, along, levelForward, levelBack, onFirst, levelsForward, levelsBack, lowered, raised, grey, pictured, numbersOf, greysOf, thumbnailOf}
 use Rattle.paper.specs.Walk.{bitOf, reaches, largest, bitsNeeded, planeCount, testSet, refined, begun, walkNumber, _next_, walkNumbers, walkSet, walkRest, walkPlane, walkPlanes, codeOf, decodeOf}
 use Rattle.paper.specs.Bits.{bits, byteOf, packed, laid, allZero}
 use Rattle.paper.specs.Block.{labelCharacter, labelCharacters, isLabel, sameBytes, plainSum, weighedSum, header, sealed, payloadOf, checksRight, fieldsRight, blockRefusal}
 use Rattle.paper.specs.Record.{blockOf, recordOf, inTurn, turnRefusal, runFrom, bitsKept, payloadKept}
-use Rattle.paper.specs.Jobs.{sizesRefusal, Forward, forwardRefusal, forwardJob, Coding, codingRefusal, writtenOf, codingJob, Decoding, decodingRefusal, decodingJob, Writing, writingRefusal, writingJob, Read, readingRefusal, readingJob}
+use Rattle.paper.specs.Jobs.{sizesRefusal, Forward, forwardRefusal, forwardJob, Coding, codingRefusal, writtenOf, codingJob, Decoding, decodingRefusal, decodingJob, Inverse, thumbnailRefusal, thumbnailJob, Writing, writingRefusal, writingJob, Read, readingRefusal, readingJob}
 
 -- ---- what is given
 -- the numbers that a slice holds before it is filled: those of the last label
@@ -45,6 +45,10 @@ coded numbers bytes = codingJob 3 2 numbers whole bytes
 -- P3's bytes, of which the first b bits are decoded
 abbrev pub cut : ℕ → Decoding
 cut b = decodingJob 3 2 3 last (0xC0 ∷ 0x08 ∷ 0x00 ∷ []) b
+
+-- the thumbnail of side 8 / 2 ^ r, of two levels, into slices that hold another
+abbrev pub thumbnail : ℕ → List ℤ → Inverse
+thumbnail r numbers = thumbnailJob 3 2 r numbers (replicate (4 ^ (3 - r)) 7) (replicate (4 ^ (3 - r)) (negsuc 8))
 
 abbrev pub label417 : List ℕ
 label417 = 0x30 ∷ 0x30 ∷ 0x30 ∷ 0x30 ∷ 0x30 ∷ 0x34 ∷ 0x31 ∷ 0x37 ∷ []
@@ -80,6 +84,18 @@ pub record Checked : Type 0 where
   pub P9-planes : decodingJob 3 2 0 last [] 0 ≡ record { refusal = 0; unfinished = 0; read = 0; numbers = zeros 64 }
   pub P10 : forwardJob 3 2 (replicate 64 255) last ≡ record { refusal = 0; n = 7; numbers = replicate 4 (pos 127) ++ zeros 60 }
   pub P11 : zOf 3 (6 * 8 + 7) ≡ 61
+  -- side 4: one level is left to undo; the last number, beyond the limit, is none of the first 16
+  pub thumbnail-early : thumbnail 1 (pos 5 ∷ (zeros 62 ++ pos 262144 ∷ [])) ≡ record {
+    refusal = 0;
+    picture = 133 ∷ 130 ∷ 128 ∷ 128 ∷ 130 ∷ 129 ∷ replicate 10 128;
+    room = pos 133 ∷ pos 130 ∷ pos 130 ∷ pos 129 ∷ replicate 12 (pos 128);
+  }
+  -- side 2: the smallest band and 128
+  pub thumbnail-smallest : thumbnail 2 (pos 5 ∷ negsuc 199 ∷ pos 200 ∷ zeros 61) ≡ record { refusal = 0; picture = 133 ∷ 0 ∷ 255 ∷ 128 ∷ []; room = pos 133 ∷ negsuc 71 ∷ pos 328 ∷ pos 128 ∷ [] }
+  -- 4 for the last of the first 16; 13 for r below 1 and above L, before 3
+  pub thumbnail-limit : (thumbnail 1 (zeros 15 ++ pos 262144 ∷ zeros 48)) .refusal ≡ 4
+  pub thumbnail-whole : (thumbnail 0 (zeros 64)) .refusal ≡ 13
+  pub thumbnail-deep : (thumbnail 3 []) .refusal ≡ 13
   pub block : writingJob 3 2 0 label417 [] 0 (replicate 514 0x55) ≡ record { refusal = 0; blocks = 1; room = block417 ++ 0x55 ∷ 0x55 ∷ [] }
   pub label : readingJob block417 label417 (replicate 492 0x55) ≡ record { refusal = 0; k = 3; L = 2; n = 0; blocks = 1; bits = 0; ended = 0; room = replicate 492 0x55 }
   pub zeros-kept : (readingJob block417 (0x34 ∷ 0x31 ∷ 0x37 ∷ []) (replicate 492 0x55)) .refusal ≡ 7
@@ -94,5 +110,5 @@ pub record Checked : Type 0 where
   pub no-characters : inEachPlace (0x2F ∷ 0x3A ∷ 0x40 ∷ 0x5B ∷ 0x60 ∷ 0x61 ∷ 0x7A ∷ 0x7B ∷ 0x20 ∷ 0x00 ∷ 0xFF ∷ []) ≡ replicate 88 false
 
 pub checked : Checked
-unfolding sizeIn levelsIn planesIn numbersIn mostBits made joined highOf lowOf highAt lowAt lineForward interleaved columnOf rowOf zOf rasterOf placeOf lineOf spotOf line along levelForward onFirst levelsForward lowered numbersOf bitOf reaches largest bitsNeeded planeCount testSet refined begun walkNumber _next_ walkNumbers walkSet walkRest walkPlane walkPlanes codeOf decodeOf bits byteOf packed laid allZero labelCharacter labelCharacters isLabel sameBytes plainSum weighedSum header sealed payloadOf checksRight fieldsRight blockRefusal blockOf recordOf inTurn turnRefusal runFrom bitsKept payloadKept sizesRefusal forwardRefusal forwardJob codingRefusal writtenOf codingJob decodingRefusal decodingJob writingRefusal writingJob readingRefusal readingJob
-checked = record { P1 = refl; P2 = refl; P3 = refl; P4 = refl; P5 = refl; P6 = refl; P7 = refl; P8 = refl; P9 = refl; P9-bits = refl; P9-planes = refl; P10 = refl; P11 = refl; block = refl; label = refl; zeros-kept = refl; block-L6 = refl; label-L6 = refl; checks = refl; every-character = refl; characters = refl; no-characters = refl }
+unfolding sizeIn levelsIn halvingsIn planesIn numbersIn mostBits made joined highOf lowOf highAt lowAt lineForward oddOf evenOf evenAt oddAt woven lineBack interleaved columnOf rowOf zOf rasterOf placeOf lineOf spotOf line along levelForward levelBack onFirst levelsForward levelsBack lowered raised grey pictured numbersOf greysOf thumbnailOf bitOf reaches largest bitsNeeded planeCount testSet refined begun walkNumber _next_ walkNumbers walkSet walkRest walkPlane walkPlanes codeOf decodeOf bits byteOf packed laid allZero labelCharacter labelCharacters isLabel sameBytes plainSum weighedSum header sealed payloadOf checksRight fieldsRight blockRefusal blockOf recordOf inTurn turnRefusal runFrom bitsKept payloadKept sizesRefusal forwardRefusal forwardJob codingRefusal writtenOf codingJob decodingRefusal decodingJob thumbnailRefusal thumbnailJob writingRefusal writingJob readingRefusal readingJob
+checked = record { P1 = refl; P2 = refl; P3 = refl; P4 = refl; P5 = refl; P6 = refl; P7 = refl; P8 = refl; P9 = refl; P9-bits = refl; P9-planes = refl; P10 = refl; P11 = refl; thumbnail-early = refl; thumbnail-smallest = refl; thumbnail-limit = refl; thumbnail-whole = refl; thumbnail-deep = refl; block = refl; label = refl; zeros-kept = refl; block-L6 = refl; label-L6 = refl; checks = refl; every-character = refl; characters = refl; no-characters = refl }

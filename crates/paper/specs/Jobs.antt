@@ -1,20 +1,21 @@
--- The seven jobs. Each definition gives, for every input, the refusal's number and everything that the job answers and
--- leaves in each lent place. Rows of the refusal table stand in the table's order, lowest number first.
+-- The eight jobs. Each definition gives, for every input, the refusal's number and everything that the job answers and
+-- leaves in each lent place. Rows of the refusal table stand in the order in which they are judged: lowest number first, but 13
+-- between 2 and 3.
 use mathlib.Core.Bool.{Bool, true, false, _&&_}
 use mathlib.Core.List.{List, [], _∷_, _++_}
 use Prim.Native.Nat.{ℕ, zero, suc, _+_, _*_, _-_, _/_, _^_, min}
 use lib.Dec.{leb, eqb}
 use lib.IntN.{ℤ}
 use lib.ListN.{length, take}
-use Rattle.paper.specs.Sizes.{sizeIn, levelsIn, planesIn, numbersIn, mostBits, unless, judged}
+use Rattle.paper.specs.Sizes.{sizeIn, levelsIn, halvingsIn, planesIn, numbersIn, mostBits, unless, judged}
 use Rattle.paper.specs.Lists.{over}
-use Rattle.paper.specs.Square.{numbersOf, greysOf, pictured}
+use Rattle.paper.specs.Square.{numbersOf, greysOf, pictured, thumbnailOf}
 use Rattle.paper.specs.Walk.{planeCount, codeOf, decodeOf, Settled}
 use Rattle.paper.specs.Bits.{bits, laid}
 use Rattle.paper.specs.Block.{isLabel, byteAt, blockBytes, payloadBytes, payloadStart, blockRefusal}
 use Rattle.paper.specs.Record.{blocksFor, recordOf, wholeBlocks, refusalAt, Run, runOf, bitsKept, payloadKept}
 
--- rows 1 and 2, which five jobs judge first
+-- rows 1 and 2, which six jobs judge first
 unfoldable pub sizesRefusal : ℕ → ℕ → ℕ → ℕ
 sizesRefusal k L later = unless 1 (sizeIn k) (unless 2 (levelsIn k L) later)
 
@@ -99,6 +100,21 @@ inverseJob k L numbers picture room =
     judged (inverseRefusal k L numbers picture room)
     (λ r. record { refusal = r; picture = picture; room = room })
     (record { refusal = 0; picture = pictured k (greysOf k L numbers); room = greysOf k L numbers })
+
+-- ---- thumbnail: fills the picture of side S / 2 ^ r from the first (S / 2 ^ r)² numbers; answers and leaves what the inverse does
+-- rows 3 and 4: the numbers are S², the picture and the room are the thumbnail's; numbers behind the first ones are not judged
+unfoldable pub thumbnailRefusal : ℕ → ℕ → ℕ → List ℤ → List ℕ → List ℤ → ℕ
+thumbnailRefusal k L r numbers picture room =
+    sizesRefusal k L
+    (unless 13 (halvingsIn L r)
+    (unless 3 (isSquare k (length numbers) && isSquare (k - r) (length picture) && isSquare (k - r) (length room))
+    (unless 4 (numbersIn (take (4 ^ (k - r)) numbers)) 0)))
+
+unfoldable pub thumbnailJob : ℕ → ℕ → ℕ → List ℤ → List ℕ → List ℤ → Inverse
+thumbnailJob k L r numbers picture room =
+    judged (thumbnailRefusal k L r numbers picture room)
+    (λ r. record { refusal = r; picture = picture; room = room })
+    (record { refusal = 0; picture = pictured (k - r) (thumbnailOf k L r numbers); room = thumbnailOf k L r numbers })
 
 -- ---- record writing, of b bits: the record's blocks at the front of the room, and their count
 pub record Writing : Type 0 where

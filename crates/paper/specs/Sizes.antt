@@ -32,6 +32,10 @@ sizeIn k = leb leastSize k && leb k mostSize
 unfoldable pub levelsIn : ℕ → ℕ → Bool
 levelsIn k L = leb 1 L && leb L (min mostLevels (k - 1))
 
+-- r, how often a thumbnail halves the side: from 1 to L
+unfoldable pub halvingsIn : ℕ → ℕ → Bool
+halvingsIn L r = leb 1 r && leb r L
+
 -- n at most 18
 unfoldable pub planesIn : ℕ → Bool
 planesIn n = leb n mostPlanes

@@ -74,3 +74,16 @@ numbersOf k L picture = levelsForward lineForward L k (lowered k picture)
 
 unfoldable pub greysOf : ℕ → ℕ → List ℤ → List ℤ
 greysOf k L numbers = raised k (levelsBack lineBack L k numbers)
+
+-- ---- a thumbnail, of side 2 ^ (k - r)
+-- the r-level low band of a square: the upper left square that r levels leave
+unfoldable pub lowBand : (List ℤ → List ℤ) → ℕ → ℕ → List ℤ → List ℤ
+lowBand f r k xs = take (4 ^ (k - r)) (levelsForward f r k xs)
+
+-- the r-level low band of a picture, by the 5/3 rule, and 128
+unfoldable pub lowGreysOf : ℕ → ℕ → List ℕ → List ℤ
+lowGreysOf k r picture = raised (k - r) (lowBand lineForward r k (lowered k picture))
+
+-- the greys that the first (S / 2 ^ r)² numbers alone give back: the inverse, which stops r levels early
+unfoldable pub thumbnailOf : ℕ → ℕ → ℕ → List ℤ → List ℤ
+thumbnailOf k L r numbers = greysOf (k - r) (L - r) (take (4 ^ (k - r)) numbers)
