@@ -1,7 +1,7 @@
 // The paper's sizes and limits: which sides, levels, planes and numbers are in range, and what follows from them.
 ghost use mathlib.Core.Path.{_≡_};
 ghost use mathlib.Core.Bool.{true};
-ghost use Prim.Native.Nat.{ℕ, _+_, _*_, _/_, _^_, _≤_, max};
+ghost use Prim.Native.Nat.{ℕ, _+_, _*_, _-_, _/_, _^_, _≤_, max};
 ghost use lib.Dec.{leb};
 ghost use lib.IntN.{natAbs};
 ghost use Rattle.integer_laws.specs.Order.{Within};
@@ -108,6 +108,16 @@ fn larger(a: u32, b: u32) -> u32
     ensures { λ r. ⌜ r ≡ max a b ⌝ }
 {
     if a < b { b } else { a }
+}
+
+// a - b, and 0 where b is larger, as the definitions have it.
+pub fn less(a: u32, b: u32) -> u32
+    ensures { λ r. ⌜ r ≡ a - b ⌝ }
+{
+    if a < b {
+        return 0;
+    }
+    a - b
 }
 
 // The magnitude of a wavelet number.

@@ -1,33 +1,27 @@
--- The k of a side that is among those held or not.
+-- The squares that are shown, and the k of a picture that is held or not.
 use mathlib.Core.Path.{_≡_, refl, _∙_}
-use mathlib.Core.Bool.{Bool, true, false, _&&_}
+use mathlib.Core.Bool.{true, false}
 use Prim.Native.Nat.{ℕ, suc, _^_, _<_, _≤_}
-use native.Mathlib.Omega.{arith}
 use lib.Dec.{leb}
 use borrow.Author.Tests.{le-leb, lt-leb, leb-true, eq-eqb, ne-eqb}
-use Rattle.square_pgm.specs.Sides.{heldSize, sizeAmong, sideOf}
+use Rattle.sizes.proofs.Ranges.{both-second}
+use Rattle.square_pgm.specs.Sides.{mostHeld, shownSize, sizeAmong, sideOf}
 
--- ---- the squares that are held
+-- ---- the squares that are shown
 module _ (k : ℕ) where
-  pub held-low : k < 3 → false ≡ heldSize k
-  unfolding heldSize
-  held-low h = rw (lt-leb 3 k h)
+  pub shown-low : k < 1 → false ≡ shownSize k
+  unfolding shownSize
+  shown-low h = rw (lt-leb 1 k h)
 
-  pub held-high : 3 ≤ k → leb k 6 ≡ heldSize k
-  unfolding heldSize
-  held-high h = rw (le-leb 3 k h)
+  pub shown-high : 1 ≤ k → leb k mostHeld ≡ shownSize k
+  unfolding shownSize
+  shown-high h = rw (le-leb 1 k h)
 
-  -- there is no other
-  pub held-all : heldSize k ≡ true → (k ≡ 3 → ⊥) → (k ≡ 4 → ⊥) → (k ≡ 5 → ⊥) → (k ≡ 6 → ⊥) → ⊥
-  unfolding heldSize
-  held-all h a b c d = go (leb 3 k) (leb k 6) refl refl h
-    where
-      go : (s t : Bool) → leb 3 k ≡ s → leb k 6 ≡ t → s && t ≡ true → ⊥
-      go true true e f g = omega (arith, leb-true 3 k e, leb-true k 6 f)
-      go true false e f g = let z : _≡_ {A = ℕ} 0 1 = cc in omega arith
-      go false t e f g = let z : _≡_ {A = ℕ} 0 1 = cc in omega arith
+  pub shown-held : shownSize k ≡ true → k ≤ mostHeld
+  unfolding shownSize
+  shown-held e = leb-true k mostHeld (both-second (leb 1 k) (leb k mostHeld) e)
 
--- ---- the k of a square
+-- ---- the k of a picture
 pub oblong : (width height : ℕ) → (width ≡ height → ⊥) → 0 ≡ sideOf width height
 unfolding sideOf
 oblong width height e = rw (ne-eqb width height e)

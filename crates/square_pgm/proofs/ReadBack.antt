@@ -1,37 +1,33 @@
--- What is written is read back: the header of each square that is held, whatever its promise says in one line and whatever
+-- What is written is read back: the header of each square that is shown, whatever its promise says in one line and whatever
 -- stands behind it.
 use mathlib.Core.Path.{_≡_, refl, sym, ap, _∙_}
 use mathlib.Core.Bool.{Bool, true, false, not, _&&_}
 use mathlib.Core.List.{List, [], _∷_, _++_, append-nil, append-assoc}
 use Prim.Native.Nat.{ℕ, zero, suc, _+_, _/_, _^_, _<_, _≤_}
 use native.Mathlib.Omega.{arith}
-use lib.Dec.{eqb}
+use lib.Dec.{leb, eqb}
 use lib.ListN.{length, drop, getD, length-append}
 use lib.Seq.{drop-append-add, getD-append-add}
-use borrow.Author.Tests.{ne-eqb}
+use borrow.Author.Tests.{ne-eqb, not-true}
 use Rattle.paper.specs.Lists.{pick}
+use Rattle.sizes.proofs.Ranges.{both-first, both-second}
 use Rattle.pgm.specs.declared.Number.{Number}
 use Rattle.pgm.specs.declared.Header.{Header}
 use Rattle.pgm.specs.Ascii.{ascii, decimal}
 use Rattle.pgm.specs.Header.{isSpace, isLineEnd, isDigit, isPassed, isInside, pastSpace, pastLine, withDigit, numberFrom, fieldAt, rasterAt, pastMagic, headerOf}
-use Rattle.words.specs.Line.{on, _puts_}
-use Rattle.words.proofs.Laws.{putsAll, oneText, puts-all}
+use Rattle.words.specs.Line.{on, _puts_, figure}
+use Rattle.words.proofs.Laws.{putsAll, oneText, lengths, one-text-length, puts-all}
 use Rattle.words.proofs.Decimal.{decimal-length}
-use Rattle.square_pgm.specs.Sides.{heldSize, sizeAmong, sideOf}
-use Rattle.square_pgm.specs.Text.{sidesText, headerText, headed, isOneLine}
-
-one-line : (a b : Bool) → not a && b ≡ true → (a ≡ false) × (b ≡ true)
-one-line false true h = (refl, refl)
-one-line false false h = absurd (let z : _≡_ {A = ℕ} 0 1 = cc in omega arith)
-one-line true b h = absurd (let z : _≡_ {A = ℕ} 0 1 = cc in omega arith)
+use Rattle.square_pgm.specs.Sides.{shownSize, sizeAmong, sideOf}
+use Rattle.square_pgm.specs.Text.{headerText, headed, isOneLine}
 
 -- a comment of one line is passed over, its line end with it
 comment-passed : (text rest : List ℕ) (at : ℕ) → isOneLine text ≡ true → pastSpace true at ((text ++ (10 ∷ [])) ++ rest) ≡ pastSpace false (at + length (text ++ (10 ∷ []))) rest
 unfolding isOneLine pastSpace isPassed isInside isLineEnd
 comment-passed [] rest at h = ap (λ (i : ℕ). pastSpace false i rest) (omega arith)
 comment-passed (c ∷ text) rest at h =
-    let both = one-line (isLineEnd c) (isOneLine text) h in
-    rw (both .0) (comment-passed text rest (suc at) (both .1) ∙ ap (λ (i : ℕ). pastSpace false i rest) (omega arith))
+    let here : isLineEnd c ≡ false = not-true _ (both-first (not (isLineEnd c)) (isOneLine text) h) in
+    rw here (comment-passed text rest (suc at) (both-second (not (isLineEnd c)) (isOneLine text) h) ∙ ap (λ (i : ℕ). pastSpace false i rest) (omega arith))
 
 -- the place behind w + 1 bytes
 after : ℕ → ℕ → ℕ
@@ -108,12 +104,15 @@ header-parts promise x raster side e =
     let long : length (before promise) + length x ≡ length (ascii "P5\n# " ++ (promise ++ (ascii "\n" ++ x))) = omega (arith, length-append promise (ascii "\n"), length-append promise (ascii "\n" ++ x)) in
     ap (λ (l : List ℕ). headerOf (ascii "P5\n# " ++ l)) parts ∙ (e ∙ ap (read side) long)
 
--- the header read is right, gives k back, has greys to 255, and the raster begins where the header ends
+-- the header read is right, has the side and greys to 255, and the raster begins where the header ends; of the sides that are held it
+-- gives k back, of smaller ones nothing
 pub record ReadBack (k : ℕ) (promise raster : List ℕ) : Type 0 where
   pub header : headerOf (headerText k promise ++ raster) ≡ record { right = true; width = 2 ^ k; height = 2 ^ k; most = 255; start = length (headerText k promise) }
-  pub side : sideOf (2 ^ k) (2 ^ k) ≡ k
+  pub side : sideOf (2 ^ k) (2 ^ k) ≡ pick (leb 3 k) k 0
 
 pub record HeadersReadBack (promise raster : List ℕ) : Type 0 where
+  pub k1 : ReadBack 1 promise raster
+  pub k2 : ReadBack 2 promise raster
   pub k3 : ReadBack 3 promise raster
   pub k4 : ReadBack 4 promise raster
   pub k5 : ReadBack 5 promise raster
@@ -121,8 +120,10 @@ pub record HeadersReadBack (promise raster : List ℕ) : Type 0 where
 
 -- whatever the promise says in one line
 pub header-read-back : (promise raster : List ℕ) → isOneLine promise ≡ true → HeadersReadBack promise raster
-unfolding isSpace isLineEnd isDigit isPassed isInside pastSpace withDigit numberFrom pastMagic decimal sidesText headerText sizeAmong sideOf after
+unfolding isSpace isLineEnd isDigit isPassed isInside pastSpace withDigit numberFrom pastMagic decimal headerText sizeAmong sideOf after
 header-read-back promise raster h = record {
+  k1 = record { header = header-parts promise (ascii "2 2\n255\n") raster 2 (header-there pre (ascii "2 2\n255\n" ++ raster) long 2 0 refl (passed _ (λ at. refl)) (λ at. refl) (λ at. refl) (λ at. refl) (λ at. refl) (λ at. refl) refl); side = refl };
+  k2 = record { header = header-parts promise (ascii "4 4\n255\n") raster 4 (header-there pre (ascii "4 4\n255\n" ++ raster) long 4 0 refl (passed _ (λ at. refl)) (λ at. refl) (λ at. refl) (λ at. refl) (λ at. refl) (λ at. refl) refl); side = refl };
   k3 = record { header = header-parts promise (ascii "8 8\n255\n") raster 8 (header-there pre (ascii "8 8\n255\n" ++ raster) long 8 0 refl (passed _ (λ at. refl)) (λ at. refl) (λ at. refl) (λ at. refl) (λ at. refl) (λ at. refl) refl); side = refl };
   k4 = record { header = header-parts promise (ascii "16 16\n255\n") raster 16 (header-there pre (ascii "16 16\n255\n" ++ raster) long 16 1 refl (passed _ (λ at. refl)) (λ at. refl) (λ at. refl) (λ at. refl) (λ at. refl) (λ at. refl) refl); side = refl };
   k5 = record { header = header-parts promise (ascii "32 32\n255\n") raster 32 (header-there pre (ascii "32 32\n255\n" ++ raster) long 32 1 refl (passed _ (λ at. refl)) (λ at. refl) (λ at. refl) (λ at. refl) (λ at. refl) (λ at. refl) refl); side = refl };
@@ -141,22 +142,20 @@ header-read-back promise raster h = record {
 
 -- ---- what is written is this text, where there is room for it
 texts : ℕ → List ℕ → List (List ℕ)
-texts k promise = ascii "P5\n# " ∷ promise ∷ sidesText k ∷ []
+texts k promise = ascii "P5\n# " ∷ promise ∷ ascii "\n" ∷ figure (2 ^ k) ∷ ascii " " ∷ figure (2 ^ k) ∷ ascii "\n255\n" ∷ []
 
 header-texts : (k : ℕ) (promise : List ℕ) → headerText k promise ≡ oneText (texts k promise)
 unfolding headerText oneText texts
-header-texts k promise = rw (append-nil (sidesText k))
+header-texts k promise = refl
 
-pub header-put : (k : ℕ) (promise bytes : List ℕ) → heldSize k ≡ true → length (headerText k promise) ≤ length bytes
+pub header-put : (k : ℕ) (promise bytes : List ℕ) → shownSize k ≡ true → length (headerText k promise) ≤ length bytes
     → headed k promise (on bytes 0) ≡ on bytes 0 puts headerText k promise
 unfolding headed putsAll texts
-header-put k promise bytes held room =
+header-put k promise bytes shown room =
     let long : 0 + length (oneText (texts k promise)) ≤ length bytes = omega (arith, ap length (header-texts k promise)) in
-    rw held (puts-all (texts k promise) bytes 0 long ∙ ap (λ (text : List ℕ). on bytes 0 puts text) (sym (header-texts k promise)))
+    rw shown (puts-all (texts k promise) bytes 0 long ∙ ap (λ (text : List ℕ). on bytes 0 puts text) (sym (header-texts k promise)))
 
--- it takes 16 bytes at most beside the promise
-pub header-room : (k : ℕ) (promise : List ℕ) → length (headerText k promise) ≤ length promise + 16
-unfolding headerText sidesText
-header-room k promise =
-    let d = decimal 2 (2 ^ k) in
-    omega (arith, length-append promise (10 ∷ (d ++ (32 ∷ (d ++ ascii "\n255\n")))), length-append d (32 ∷ (d ++ ascii "\n255\n")), length-append d (ascii "\n255\n"), decimal-length 2 (2 ^ k))
+-- it takes 52 bytes at most beside the promise
+pub header-room : (k : ℕ) (promise : List ℕ) → length (headerText k promise) ≤ length promise + 52
+unfolding texts lengths
+header-room k promise = omega (arith, ap length (header-texts k promise), one-text-length (texts k promise), decimal-length 20 (2 ^ k))

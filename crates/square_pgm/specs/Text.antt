@@ -1,23 +1,23 @@
--- The header that stands before the raster of a picture of side 2 ^ k, with a promise in its comment.
+-- The header that stands before the raster of a square of side 2 ^ k, with a promise in its comment.
 use mathlib.Core.Bool.{Bool, true, not, _&&_}
 use mathlib.Core.List.{List, [], _∷_, _++_}
 use Prim.Native.Nat.{ℕ, _^_}
 use Rattle.paper.specs.Lists.{pick}
-use Rattle.pgm.specs.Ascii.{ascii, decimal}
+use Rattle.pgm.specs.Ascii.{ascii}
 use Rattle.pgm.specs.Header.{isLineEnd}
-use Rattle.words.specs.Line.{Line, _puts_}
-use Rattle.square_pgm.specs.Sides.{heldSize}
-
--- what stands behind the comment: the sides and the largest grey
-unfoldable pub sidesText : ℕ → List ℕ
-sidesText k = ascii "\n" ++ (decimal 2 (2 ^ k) ++ (ascii " " ++ (decimal 2 (2 ^ k) ++ ascii "\n255\n")))
+use Rattle.words.specs.Line.{Line, _puts_, figure}
+use Rattle.square_pgm.specs.Sides.{shownSize}
 
 unfoldable pub headerText : ℕ → List ℕ → List ℕ
-headerText k promise = ascii "P5\n# " ++ (promise ++ sidesText k)
+headerText k promise =
+    ascii "P5\n# " ++ (promise ++ (ascii "\n" ++ (figure (2 ^ k) ++ (ascii " " ++ (figure (2 ^ k) ++ ascii "\n255\n")))))
 
--- the header put into a line; nothing where the square is not held
+-- the header put into a line; nothing where the square is none that is shown
 unfoldable pub headed : ℕ → List ℕ → Line → Line
-headed k promise line = pick (heldSize k) (line puts ascii "P5\n# " puts promise puts sidesText k) line
+headed k promise line =
+    pick (shownSize k)
+    (line puts ascii "P5\n# " puts promise puts ascii "\n" puts figure (2 ^ k) puts ascii " " puts figure (2 ^ k) puts ascii "\n255\n")
+    line
 
 -- a text of one line: nothing in it ends a line
 unfoldable pub isOneLine : List ℕ → Bool

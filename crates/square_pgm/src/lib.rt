@@ -1,10 +1,13 @@
-// Square pictures of side 2 ^ k as PGM: their k from a header's width and height, and a header from their k.
+// Squares of side 2 ^ k as PGM: a picture's k from a header's width and height, and a header from the k of what is shown.
 ghost use mathlib.Core.Path.{_≡_};
-ghost use mathlib.Core.Bool.{true};
-ghost use Rattle.words.specs.Line.{on, _puts_};
-ghost use Rattle.square_pgm.specs.Sides.{heldSize, sideOf};
-ghost use Rattle.square_pgm.specs.Text.{sidesText, headed};
+ghost use Rattle.words.specs.Line.{on};
+ghost use Rattle.square_pgm.specs.Sides.{shownSize, sideOf};
+ghost use Rattle.square_pgm.specs.Text.{headed};
 use words::put;
+use words::put_figure;
+
+// The largest k that the programs' buffers hold.
+pub const MOST_HELD: u32 = 6;
 
 // k from 3 to 6 with width = height = 2 ^ k, else 0.
 pub fn side_of(width: u32, height: u32) -> u32
@@ -28,39 +31,28 @@ pub fn side_of(width: u32, height: u32) -> u32
     0
 }
 
-// Whether the square is held: k from 3 to 6.
-fn is_held(k: u32) -> bool
-    ensures { λ r. ⌜ r ≡ heldSize k ⌝ }
+// Whether the square is one that is shown: k from 1 to 6.
+fn is_shown(k: u32) -> bool
+    ensures { λ r. ⌜ r ≡ shownSize k ⌝ }
 {
-    if k < 3 {
+    if k < 1 {
         return false;
     }
-    k <= 6
+    k <= MOST_HELD
 }
 
-// What stands behind the comment.
-fn put_sides(k: u32, room: &mut [u8], at: usize) -> usize
-    requires { ⌜ heldSize k ≡ true ⌝ }
-    ensures { λ r. ⌜ on (now (room .entry)) at puts sidesText k ≡ on (now (room .exit)) r ⌝ }
-{
-    match k {
-        3 => put(b"\n8 8\n255\n", room, at),
-        4 => put(b"\n16 16\n255\n", room, at),
-        5 => put(b"\n32 32\n255\n", room, at),
-        6 => put(b"\n64 64\n255\n", room, at),
-        _ => at,
-    }
-}
-
-// The header of a picture of side 2 ^ k, k from 3 to 6, with a promise in its comment, at the front of `room`; its length.
+// The header of a square of side 2 ^ k, k from 1 to 6, with a promise in its comment, at the front of `room`; its length.
 // Else 0, and nothing is written.
 pub fn write_header(k: u32, promise: &[u8], room: &mut [u8]) -> usize
     ensures { λ r. ⌜ headed k (now (promise .entry)) (on (now (room .entry)) 0) ≡ on (now (room .exit)) r ⌝ }
 {
-    if !is_held(k) {
+    if !is_shown(k) {
         return 0;
     }
+    let side = places::side(k) as u64;
     let magic = put(b"P5\n# ", room, 0);
     let told = put(promise, room, magic);
-    put_sides(k, room, told)
+    let across = put_figure(b"\n", side, room, told);
+    let down = put_figure(b" ", side, room, across);
+    put(b"\n255\n", room, down)
 }

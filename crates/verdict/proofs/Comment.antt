@@ -3,7 +3,7 @@
 use mathlib.Core.Path.{_≡_, refl, sym, ap, _∙_}
 use mathlib.Core.Bool.{Bool, true, false, not, _&&_, _||_}
 use mathlib.Core.List.{List, [], _∷_, _++_, append-nil}
-use Prim.Native.Nat.{ℕ, zero, suc, _+_, _/_, _%_, _≤_}
+use Prim.Native.Nat.{ℕ, zero, suc, _+_, _-_, _/_, _%_, _≤_}
 use native.Mathlib.Omega.{arith}
 use lib.Dec.{leb, ltb, eqb}
 use lib.ListN.{length, length-append}
@@ -14,15 +14,18 @@ use Rattle.paper.specs.Block.{labelCharacter, labelCharacters, isLabel}
 use Rattle.sizes.proofs.Ranges.{both-first, both-second}
 use Rattle.pgm.specs.Ascii.{ascii, decimal}
 use Rattle.pgm.specs.Header.{isLineEnd}
-use Rattle.square_pgm.specs.Sides.{heldSize}
+use Rattle.square_pgm.specs.Sides.{shownSize}
 use Rattle.square_pgm.specs.Text.{headerText, headed, isOneLine}
 use Rattle.square_pgm.proofs.ReadBack.{HeadersReadBack, header-read-back, header-put, header-room}
 use Rattle.words.specs.Line.{on, _puts_, figure}
-use Rattle.words.proofs.Laws.{putsAll, oneText, lengths, one-text-length, puts-all}
+use Rattle.words.proofs.Laws.{either, putsAll, oneText, lengths, one-text-length, puts-all}
 use Rattle.words.proofs.Decimal.{decimal-length}
-use Rattle.verdict.specs.Verdict.{word, of255, promiseOf, promiseText}
+use Rattle.verdict.specs.Verdict.{word, sideOf, ofThumbnail, of255, promiseOf, promiseText}
 
 -- ---- no line end in it
+abbrev OneLine : List ℕ → Type 0
+OneLine text = isOneLine text ≡ true
+
 one-more : (c : ℕ) (text : List ℕ) → 48 ≤ c → isOneLine text ≡ true → isOneLine (c ∷ text) ≡ true
 unfolding isOneLine isLineEnd
 one-more c text h e = rw (ne-eqb c 10 (λ f. omega (arith, f)), ne-eqb c 13 (λ f. omega (arith, f)), e)
@@ -64,27 +67,25 @@ characters-line (c ∷ label) h =
 
 word-line : (p : ℕ) → isOneLine (word p) ≡ true
 unfolding word isOneLine isLineEnd
-word-line p = go (eqb p 0)
-  where
-    go : (b : Bool) → isOneLine (pick b (ascii "WHOLE") (ascii "CUT")) ≡ true
-    go true = refl
-    go false = refl
+word-line p = either OneLine (eqb p 0) _ _ refl refl
 
 of255-line : (blocks : ℕ) → isOneLine (of255 blocks) ≡ true
 unfolding of255 isOneLine isLineEnd
-of255-line blocks = go (leb blocks 1)
-  where
-    go : (b : Bool) → isOneLine (pick b (ascii " of 255") (ascii " of 255, if of one shot")) ≡ true
-    go true = refl
-    go false = refl
+of255-line blocks = either OneLine (leb blocks 1) _ _ refl refl
+
+thumbnail-line : (r : ℕ) (text : List ℕ) → isOneLine text ≡ true → isOneLine (ofThumbnail r text) ≡ true
+unfolding ofThumbnail
+thumbnail-line r text h = either OneLine (eqb r 0) _ _ nothing-more h
 
 -- the texts of the promise
-texts : List ℕ → ℕ → ℕ → ℕ → List (List ℕ)
-texts label L p blocks = label ∷ ascii " " ∷ word p ∷ ascii ", p = " ∷ figure p ∷ ascii ", no grey off by more than " ∷ figure (greyLimit L p) ∷ of255 blocks ∷ []
+texts : List ℕ → ℕ → ℕ → ℕ → ℕ → ℕ → List (List ℕ)
+texts label k L r p blocks =
+    label ∷ ascii " " ∷ word p ∷ ascii ", p = " ∷ figure p ∷ ofThumbnail r (ascii ", thumbnail of side ") ∷ ofThumbnail r (figure (sideOf k))
+    ∷ ascii ", no grey off by more than " ∷ figure (greyLimit (L - r) p) ∷ of255 blocks ∷ []
 
-promise-texts : (label : List ℕ) (L p blocks : ℕ) → promiseText label L p blocks ≡ oneText (texts label L p blocks)
+promise-texts : (label : List ℕ) (k L r p blocks : ℕ) → promiseText label k L r p blocks ≡ oneText (texts label k L r p blocks)
 unfolding promiseText oneText texts
-promise-texts label L p blocks = rw (append-nil (of255 blocks))
+promise-texts label k L r p blocks = rw (append-nil (of255 blocks))
 
 -- texts of one line are one line
 all-lines : List (List ℕ) → Bool
@@ -96,54 +97,56 @@ unfolding all-lines oneText
 one-text-line [] h = nothing-more
 one-text-line (text ∷ more) h = both-lines text (oneText more) (both-first (isOneLine text) (all-lines more) h) (one-text-line more (both-second (isOneLine text) (all-lines more) h))
 
-module _ (label : List ℕ) (L p blocks : ℕ) (named : isLabel label ≡ true) where
+module _ (label : List ℕ) (k L r p blocks : ℕ) (named : isLabel label ≡ true) where
   label-line : isOneLine label ≡ true
   unfolding isLabel
   label-line = characters-line label (both-second (eqb (length label) 8) (labelCharacters label) named)
 
-  texts-lines : all-lines (texts label L p blocks) ≡ true
+  texts-lines : all-lines (texts label k L r p blocks) ≡ true
   unfolding all-lines texts isOneLine isLineEnd
-  texts-lines = rw (label-line, word-line p, figure-line 20 p, figure-line 20 (greyLimit L p), of255-line blocks)
+  texts-lines =
+      rw (label-line, word-line p, figure-line 20 p, thumbnail-line r (ascii ", thumbnail of side ") refl, thumbnail-line r (figure (sideOf k)) (figure-line 20 (sideOf k)), figure-line 20 (greyLimit (L - r) p), of255-line blocks)
 
-  pub promise-one-line : isOneLine (promiseText label L p blocks) ≡ true
-  promise-one-line = rw (promise-texts label L p blocks) (one-text-line (texts label L p blocks) texts-lines)
+  pub promise-one-line : isOneLine (promiseText label k L r p blocks) ≡ true
+  promise-one-line = rw (promise-texts label k L r p blocks) (one-text-line (texts label k L r p blocks) texts-lines)
 
-  -- the picture's header is read back with it, at every side that is held
-  pub promise-read-back : (raster : List ℕ) → HeadersReadBack (promiseText label L p blocks) raster
-  promise-read-back raster = header-read-back (promiseText label L p blocks) raster promise-one-line
+  -- the header is read back with it, at every side that is shown
+  pub promise-read-back : (raster : List ℕ) → HeadersReadBack (promiseText label k L r p blocks) raster
+  promise-read-back raster = header-read-back (promiseText label k L r p blocks) raster promise-one-line
 
 -- ---- all of it is there
+abbrev pub AtMost : ℕ → List ℕ → Type 0
+AtMost most text = length text ≤ most
+
 pub word-length : (p : ℕ) → length (word p) ≤ 5
 unfolding word
-word-length p = go (eqb p 0)
-  where
-    go : (b : Bool) → length (pick b (ascii "WHOLE") (ascii "CUT")) ≤ 5
-    go true = omega arith
-    go false = omega arith
+word-length p = either (AtMost 5) (eqb p 0) _ _ (omega arith) (omega arith)
+
+pub thumbnail-length : (r : ℕ) (text : List ℕ) → length (ofThumbnail r text) ≤ length text
+unfolding ofThumbnail
+thumbnail-length r text = either (AtMost (length text)) (eqb r 0) _ _ (omega arith) (omega arith)
 
 of255-length : (blocks : ℕ) → length (of255 blocks) ≤ 23
 unfolding of255
-of255-length blocks = go (leb blocks 1)
-  where
-    go : (b : Bool) → length (pick b (ascii " of 255") (ascii " of 255, if of one shot")) ≤ 23
-    go true = omega arith
-    go false = omega arith
+of255-length blocks = either (AtMost 23) (leb blocks 1) _ _ (omega arith) (omega arith)
 
-texts-length : (label : List ℕ) (L p blocks : ℕ) → length (oneText (texts label L p blocks)) ≤ length label + 102
-unfolding texts lengths
-texts-length label L p blocks = omega (arith, one-text-length (texts label L p blocks), word-length p, decimal-length 20 p, decimal-length 20 (greyLimit L p), of255-length blocks)
+module _ (label : List ℕ) (k L r p blocks : ℕ) where
+  texts-length : length (oneText (texts label k L r p blocks)) ≤ length label + 142
+  unfolding texts lengths
+  texts-length =
+      omega (arith, one-text-length (texts label k L r p blocks), word-length p, decimal-length 20 p, thumbnail-length r (ascii ", thumbnail of side "), thumbnail-length r (figure (sideOf k)), decimal-length 20 (sideOf k), decimal-length 20 (greyLimit (L - r) p), of255-length blocks)
 
--- in room of 128 bytes the promise of a label is put as one text
-pub promise-there : (bytes label : List ℕ) (L p blocks : ℕ) → 128 ≤ length bytes → length label ≤ 8
-    → promiseOf label L p blocks (on bytes 0) ≡ on bytes 0 puts promiseText label L p blocks
-unfolding promiseOf putsAll texts
-promise-there bytes label L p blocks room short =
-    let long : 0 + length (oneText (texts label L p blocks)) ≤ length bytes = omega (arith, texts-length label L p blocks) in
-    puts-all (texts label L p blocks) bytes 0 long ∙ ap (λ (text : List ℕ). on bytes 0 puts text) (sym (promise-texts label L p blocks))
+  module _ (bytes : List ℕ) (short : length label ≤ 8) where
+    -- in room of 160 bytes the promise of a label is put as one text
+    pub promise-there : 160 ≤ length bytes → promiseOf label k L r p blocks (on bytes 0) ≡ on bytes 0 puts promiseText label k L r p blocks
+    unfolding promiseOf putsAll texts
+    promise-there room =
+        let long : 0 + length (oneText (texts label k L r p blocks)) ≤ length bytes = omega (arith, texts-length) in
+        puts-all (texts label k L r p blocks) bytes 0 long ∙ ap (λ (text : List ℕ). on bytes 0 puts text) (sym (promise-texts label k L r p blocks))
 
--- and in room of 160 bytes the header with it is the text that is read back
-pub header-with-promise : (k : ℕ) (bytes label : List ℕ) (L p blocks : ℕ) → heldSize k ≡ true → 160 ≤ length bytes → length label ≤ 8
-    → headed k (promiseText label L p blocks) (on bytes 0) ≡ on bytes 0 puts headerText k (promiseText label L p blocks)
-header-with-promise k bytes label L p blocks held room short =
-    let promise = promiseText label L p blocks in
-    header-put k promise bytes held (omega (arith, header-room k promise, ap length (promise-texts label L p blocks), texts-length label L p blocks))
+    -- and in room of 208 bytes the header with it is the text that is read back, at the side 2 ^ j of what is shown
+    pub header-with-promise : (j : ℕ) → shownSize j ≡ true → 208 ≤ length bytes
+        → headed j (promiseText label k L r p blocks) (on bytes 0) ≡ on bytes 0 puts headerText j (promiseText label k L r p blocks)
+    header-with-promise j shown room =
+        let promise = promiseText label k L r p blocks in
+        header-put j promise bytes shown (omega (arith, header-room j promise, ap length (promise-texts label k L r p blocks), texts-length))

@@ -1,29 +1,40 @@
--- The side of a picture, and when more blocks are expected, by what the code tests.
+-- The side of a square, what is said of a thumbnail alone, and when more blocks are expected, by what the code tests.
 use mathlib.Core.Path.{_≡_, refl}
 use mathlib.Core.Bool.{Bool, true, false}
-use Prim.Native.Nat.{ℕ, _*_, _/_, _%_, _^_, _<_}
+use Prim.Native.Nat.{ℕ, _*_, _/_, _%_, _^_, _<_, _≤_}
 use native.Mathlib.Omega.{arith}
 use lib.Dec.{leb, eqb}
-use borrow.Author.Tests.{eq-eqb, ne-eqb, eqb-true, eqb-false, lt-leb, leb-true}
+use borrow.Author.Tests.{eq-eqb, ne-eqb, eqb-true, eqb-false, le-leb, lt-leb}
 use Rattle.paper.specs.Lists.{pick}
-use Rattle.paper.specs.Sizes.{sizeIn}
+use Rattle.paper.specs.Sizes.{mostSize}
 use Rattle.paper.specs.Block.{payloadStart, payloadBits}
-use mathlib.Core.List.{List}
+use mathlib.Core.List.{List, []}
 use Rattle.pgm.specs.Ascii.{ascii}
 use Rattle.words.specs.Line.{on}
 use Rattle.words.proofs.Laws.{Inside, puts-inside}
-use Rattle.verdict.specs.Verdict.{sideOf, awaits, of255, promiseOf}
+use Rattle.verdict.specs.Verdict.{sideOf, ofThumbnail, awaits, of255, promiseOf}
 
--- no other k is in its range
-pub no-side : (k : ℕ) → (k ≡ 3 → ⊥) → (k ≡ 4 → ⊥) → (k ≡ 5 → ⊥) → (k ≡ 6 → ⊥) → (k ≡ 7 → ⊥) → (k ≡ 8 → ⊥) → 0 ≡ sideOf k
-unfolding sideOf sizeIn
-no-side k a b c d e f = go (leb 3 k) refl
-  where
-    go : (t : Bool) → leb 3 k ≡ t → 0 ≡ sideOf k
-    go false h = rw h
-    go true h =
-        let g : leb k 8 ≡ false = lt-leb k 8 (omega (arith, leb-true 3 k h)) in
-        rw (h, g)
+pub no-side : (k : ℕ) → mostSize < k → 0 ≡ sideOf k
+unfolding sideOf
+no-side k h = rw (lt-leb k mostSize h)
+
+pub side-is : (k : ℕ) → k ≤ mostSize → 2 ^ k ≡ sideOf k
+unfolding sideOf
+side-is k h = rw (le-leb k mostSize h)
+
+-- said of a thumbnail, and left out of a picture
+module _ (r : ℕ) (text : List ℕ) where
+  pub thumbnail-is : ofThumbnail r text ≡ pick (eqb r 0) [] text
+  unfolding ofThumbnail
+  thumbnail-is = refl
+
+  pub thumbnail-unsaid : r ≡ 0 → ofThumbnail r text ≡ []
+  unfolding ofThumbnail
+  thumbnail-unsaid e = rw (eq-eqb r 0 e)
+
+  pub thumbnail-said : (r ≡ 0 → ⊥) → ofThumbnail r text ≡ text
+  unfolding ofThumbnail
+  thumbnail-said h = rw (ne-eqb r 0 h)
 
 -- the last block is full exactly if the bits fill all blocks
 module _ (blocks bits p : ℕ) where
@@ -49,8 +60,8 @@ unfolding of255
 of255-is blocks = refl
 
 -- ---- what is said ends within its room, so that it can be lent on
-pub promise-inside : (bytes label : List ℕ) (L p blocks : ℕ) → Inside (promiseOf label L p blocks (on bytes 0))
+pub promise-inside : (bytes label : List ℕ) (k L r p blocks : ℕ) → Inside (promiseOf label k L r p blocks (on bytes 0))
 unfolding promiseOf
-promise-inside bytes label L p blocks =
+promise-inside bytes label k L r p blocks =
     let h : Inside (on bytes 0) = omega arith in
-    puts-inside _ _ (puts-inside _ _ (puts-inside _ _ (puts-inside _ _ (puts-inside _ _ (puts-inside _ _ (puts-inside _ _ (puts-inside (on bytes 0) _ h)))))))
+    puts-inside _ _ (puts-inside _ _ (puts-inside _ _ (puts-inside _ _ (puts-inside _ _ (puts-inside _ _ (puts-inside _ _ (puts-inside _ _ (puts-inside _ _ (puts-inside (on bytes 0) _ h)))))))))

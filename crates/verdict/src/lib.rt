@@ -1,13 +1,15 @@
-// What decode says of a picture, as lines in lent room: the verdict first, then what it is worth; and the promise that travels
-// with it.
+// What decode says of a picture, or of a thumbnail, as lines in lent room: the verdict first, then what it is worth; and the
+// promise that travels with it. Halvings, how often a thumbnail's side was halved, are 0 for the picture itself.
 ghost use mathlib.Core.Path.{_≡_};
 ghost use mathlib.Core.Bool.{Bool};
 ghost use Prim.Native.Nat.{_-_, _≤_};
 ghost use lib.Dec.{eqb};
 ghost use lib.ListN.{length};
-ghost use Rattle.words.specs.Line.{on, _puts_};
-ghost use Rattle.verdict.specs.Verdict.{word, sideOf, titled, awaits, plural, expected, counted, oneShot, worth, planes, reportOf, of255, promiseOf};
+ghost use Rattle.paper.specs.Sizes.{greyLimit};
+ghost use Rattle.words.specs.Line.{on, _puts_, figure};
+ghost use Rattle.verdict.specs.Verdict.{word, sideOf, ofThumbnail, titled, awaits, plural, expected, counted, oneShot, kind, worth, planes, reportOf, of255, promiseOf};
 use block::PAYLOAD_BITS;
+use sizes::less;
 use words::put;
 use words::put_either;
 use words::put_figure;
@@ -26,29 +28,36 @@ fn put_word(unfinished: u32, line: &mut [u8], at: usize) -> usize
     put_either(is_whole(unfinished), b"WHOLE", b"CUT", line, at)
 }
 
-// S, and 0 where k is out of its range.
+// S, and 0 where it is beyond the largest.
 pub fn side(k: u32) -> u64
     ensures { λ r. ⌜ r ≡ sideOf k ⌝ }
 {
-    match k {
-        3 => 8,
-        4 => 16,
-        5 => 32,
-        6 => 64,
-        7 => 128,
-        8 => 256,
-        _ => 0,
+    if sizes::MOST_SIZE < k {
+        return 0;
     }
+    places::side(k) as u64
+}
+
+// A text and the picture's side, said of a thumbnail alone.
+fn put_of_side(text: &[u8], k: u32, halvings: u32, line: &mut [u8], at: usize) -> usize
+    ensures { λ r. ⌜ on (now (line .entry)) at puts ofThumbnail halvings (now (text .entry)) puts ofThumbnail halvings (figure (sideOf k)) ≡ on (now (line .exit)) r ⌝ }
+{
+    if halvings == 0 {
+        return at;
+    }
+    put_figure(text, side(k), line, at)
 }
 
 // The verdict, the label and the side.
-fn put_title(label: &[u8], k: u32, unfinished: u32, line: &mut [u8]) -> usize
-    ensures { λ r. ⌜ titled (now (label .entry)) k unfinished (on (now (line .entry)) 0) ≡ on (now (line .exit)) r ⌝ }
+fn put_title(label: &[u8], k: u32, halvings: u32, unfinished: u32, line: &mut [u8]) -> usize
+    ensures { λ r. ⌜ titled (now (label .entry)) k halvings unfinished (on (now (line .entry)) 0) ≡ on (now (line .exit)) r ⌝ }
 {
     let verdict = put_word(unfinished, line, 0);
     let blank = put(b" ", line, verdict);
     let named = put(label, line, blank);
-    put_figure(b", side ", side(k), line, named)
+    let kind = put_either(halvings == 0, b"", b", thumbnail", line, named);
+    let shown = put_figure(b", side ", side(less(k, halvings)), line, kind);
+    put_of_side(b" of ", k, halvings, line, shown)
 }
 
 // Whether more blocks were expected.
@@ -93,15 +102,37 @@ fn put_one_shot(blocks: usize, line: &mut [u8], at: usize) -> usize
     )
 }
 
+// What was shown: the picture or a thumbnail.
+fn put_kind(halvings: u32, line: &mut [u8], at: usize) -> usize
+    ensures { λ r. ⌜ on (now (line .entry)) at puts kind halvings ≡ on (now (line .exit)) r ⌝ }
+{
+    put_either(halvings == 0, b"picture", b"thumbnail", line, at)
+}
+
+// The most that a grey can be off: a thumbnail undoes fewer levels.
+fn limit(levels: u32, halvings: u32, unfinished: u32) -> u32
+    ensures { λ r. ⌜ r ≡ greyLimit (levels - halvings) unfinished ⌝ }
+{
+    sizes::grey_limit(less(levels, halvings), unfinished)
+}
+
 // How far the greys can be off.
-fn put_worth(levels: u32, unfinished: u32, blocks: usize, line: &mut [u8], at: usize) -> usize
-    ensures { λ r. ⌜ worth levels unfinished blocks (on (now (line .entry)) at) ≡ on (now (line .exit)) r ⌝ }
+fn put_worth(
+    levels: u32,
+    halvings: u32,
+    unfinished: u32,
+    blocks: usize,
+    line: &mut [u8],
+    at: usize,
+) -> usize
+    ensures { λ r. ⌜ worth levels halvings unfinished blocks (on (now (line .entry)) at) ≡ on (now (line .exit)) r ⌝ }
 {
     if is_whole(unfinished) {
-        let right = put(b"  every grey is right: the very picture", line, at);
-        return put_one_shot(blocks, line, right);
+        let right = put(b"  every grey is right: the very ", line, at);
+        let shown = put_kind(halvings, line, right);
+        return put_one_shot(blocks, line, shown);
     }
-    let limit = sizes::grey_limit(levels, unfinished);
+    let limit = limit(levels, halvings, unfinished);
     if limit == 255 {
         return put(
             b"  any grey may be wrong: too little is left to promise more\n",
@@ -112,16 +143,6 @@ fn put_worth(levels: u32, unfinished: u32, blocks: usize, line: &mut [u8], at: u
     let off = put_figure(b"  no grey is off by more than ", limit as u64, line, at);
     let most = put(b" of 255", line, off);
     put_one_shot(blocks, line, most)
-}
-
-// The planes that are finished; none where the count of unfinished ones is beyond n.
-fn finished(n: u32, unfinished: u32) -> u64
-    ensures { λ r. ⌜ r ≡ n - unfinished ⌝ }
-{
-    if n < unfinished {
-        return 0;
-    }
-    (n - unfinished) as u64
 }
 
 // Planes, levels and bits, for those who want them.
@@ -135,18 +156,19 @@ fn put_planes(
 ) -> usize
     ensures { λ r. ⌜ planes levels n unfinished bits (on (now (line .entry)) at) ≡ on (now (line .exit)) r ⌝ }
 {
-    let done = put_figure(b"  planes finished: ", finished(n, unfinished), line, at);
+    let done = put_figure(b"  planes finished: ", less(n, unfinished) as u64, line, at);
     let all = put_figure(b" of ", n as u64, line, done);
     let depth = put_figure(b", levels: ", levels as u64, line, all);
     let read = put_figure(b", bits: ", bits as u64, line, depth);
     put(b"\n", line, read)
 }
 
-// The lines of a picture that was decoded; `ended` says what ended the run.
+// The lines of what was decoded; `ended` says what ended the run.
 pub fn report(
     label: &[u8],
     k: u32,
     levels: u32,
+    halvings: u32,
     n: u32,
     blocks: usize,
     bits: usize,
@@ -154,26 +176,35 @@ pub fn report(
     ended: &[u8],
     line: &mut [u8],
 ) -> usize
-    ensures { λ r. ⌜ reportOf (now (label .entry)) k levels n blocks bits unfinished (now (ended .entry)) (on (now (line .entry)) 0) ≡ on (now (line .exit)) r ⌝ }
+    ensures { λ r. ⌜ reportOf (now (label .entry)) k levels halvings n blocks bits unfinished (now (ended .entry)) (on (now (line .entry)) 0) ≡ on (now (line .exit)) r ⌝ }
 {
-    let title = put_title(label, k, unfinished, line);
+    let title = put_title(label, k, halvings, unfinished, line);
     let counted = put_blocks(blocks, bits, unfinished, line, title);
-    let told = put_worth(levels, unfinished, blocks, line, counted);
+    let told = put_worth(levels, halvings, unfinished, blocks, line, counted);
     let depth = put_planes(levels, n, unfinished, bits, line, told);
     put(ended, line, depth)
 }
 
-// The promise as it stands in the picture's own file: label, verdict, p and the largest grey error.
-pub fn promise(label: &[u8], levels: u32, unfinished: u32, blocks: usize, line: &mut [u8]) -> usize
-    ensures { λ r. ⌜ promiseOf (now (label .entry)) levels unfinished blocks (on (now (line .entry)) 0) ≡ on (now (line .exit)) r ⌝ }
+// The promise as it stands in the picture's own file: label, verdict, p, what it is a thumbnail of, and the largest grey error.
+pub fn promise(
+    label: &[u8],
+    k: u32,
+    levels: u32,
+    halvings: u32,
+    unfinished: u32,
+    blocks: usize,
+    line: &mut [u8],
+) -> usize
+    ensures { λ r. ⌜ promiseOf (now (label .entry)) k levels halvings unfinished blocks (on (now (line .entry)) 0) ≡ on (now (line .exit)) r ⌝ }
     ensures { λ r. ⌜ r ≤ length (now (line .exit)) ⌝ }
 {
-    let limit = sizes::grey_limit(levels, unfinished);
+    let limit = limit(levels, halvings, unfinished);
     let named = put(label, line, 0);
     let blank = put(b" ", line, named);
     let verdict = put_word(unfinished, line, blank);
     let left = put_figure(b", p = ", unfinished as u64, line, verdict);
-    let most = put_figure(b", no grey off by more than ", limit as u64, line, left);
+    let whose = put_of_side(b", thumbnail of side ", k, halvings, line, left);
+    let most = put_figure(b", no grey off by more than ", limit as u64, line, whose);
     put_either(
         blocks <= 1,
         b" of 255",

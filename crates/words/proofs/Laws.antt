@@ -34,6 +34,11 @@ put-nothing line = rw (add-zero (line .at), take-append-drop (line .at) (line .b
     go true = refl
     go false = refl
 
+-- what holds of both holds of the one that is picked
+pub either : {A : Type 0} (P : A → Type 0) (b : Bool) (x y : A) → P x → P y → P (pick b x y)
+either P true x y h k = h
+either P false x y h k = k
+
 -- ---- a line's place stays within its room
 abbrev pub Inside : Line → Type 0
 Inside line = line .at ≤ length (line .bytes)
@@ -48,8 +53,7 @@ puts-inside line text h = go (leb (line .at + length text) (length (line .bytes)
         omega (arith, length-append (take (line .at) (line .bytes)) (text ++ drop (line .at + length text) (line .bytes)), length-append text (drop (line .at + length text) (line .bytes)), length-take (line .at) (line .bytes), length-drop (line .at + length text) (line .bytes), leb-true (line .at + length text) (length (line .bytes)) e)
 
 pub pick-inside : (b : Bool) (x y : Line) → Inside x → Inside y → Inside (pick b x y)
-pick-inside true x y h k = h
-pick-inside false x y h k = k
+pick-inside = either Inside
 
 -- what a line became, and that it ends within its room
 pub and-inside : (line : Line) (bytes : List ℕ) (at : ℕ) → Inside line → line ≡ on bytes at → (line ≡ on bytes at) × (at ≤ length bytes)
@@ -119,6 +123,11 @@ pub puts-more : (texts more : List (List ℕ)) (line : Line) → putsAll line (t
 unfolding putsAll
 puts-more [] more line = refl
 puts-more (text ∷ texts) more line = puts-more texts more (line puts text)
+
+-- either texts
+pub puts-either : (b : Bool) (texts more : List (List ℕ)) (line : Line) → pick b (putsAll line texts) (putsAll line more) ≡ putsAll line (pick b texts more)
+puts-either true texts more line = refl
+puts-either false texts more line = refl
 
 pub lengths-more : (texts more : List (List ℕ)) → lengths (texts ++ more) ≡ lengths texts + lengths more
 unfolding lengths

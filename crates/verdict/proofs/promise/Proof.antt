@@ -1,12 +1,13 @@
+use native.Mathlib.Omega.{arith}
 use Rattle.verdict.specs.Verdict.{promiseOf}
-use Rattle.verdict.proofs.Laws.{promise-inside, of255-is}
 use Rattle.words.proofs.Laws.{and-inside}
+use Rattle.verdict.proofs.Laws.{promise-inside, of255-is}
 use borrow.Author.Needs.{needs}
 use Rattle.verdict.proofs.promise.Statement.{statement}
 use Rattle.verdict.proofs.promise.Tie as tie
 
-grey-limit-requires : tie.Need-grey-limit-requires
-grey-limit-requires c κs = search needs
+limit-requires : tie.Need-limit-requires
+limit-requires c κs = search needs
 
 put-requires : tie.Need-put-requires
 put-requires c κs = search needs
@@ -25,6 +26,12 @@ slice-aggregate-put-figure c = search needs
 
 put-figure-requires : tie.Need-put-figure-requires
 put-figure-requires c κs = search needs
+
+slice-aggregate-put-of-side : tie.Need-slice-aggregate-put-of-side
+slice-aggregate-put-of-side c = search needs
+
+put-of-side-requires : tie.Need-put-of-side-requires
+put-of-side-requires c κs = search needs
 
 slice-aggregate-put-figure-2 : tie.Need-slice-aggregate-put-figure-2
 slice-aggregate-put-figure-2 c = search needs
@@ -45,24 +52,27 @@ put-either-requires : tie.Need-put-either-requires
 put-either-requires c κs = search needs
 
 same-length : tie.Need-same-length
-same-length c = search needs
+same-length c =
+    omega (arith, c .before .before .before .before .before .before .before .before .before .before .before .before .before .before .before .before .before .before .before .before .before .before .before .before .before .before .before .before .before .before .before .line .given)
 
 returns : tie.Need-returns
 unfolding promiseOf
 returns c =
-    and-inside _ _ _ (promise-inside _ _ _ _ _) (rw (← c .before .before .before .before .before .before .before .before .before .before .before .before .before .before .before .before .before .before .before .before .before .before .before .before .before .before .before .before .before .grey-limit .ensures, c .before .before .before .before .before .before .before .before .before .before .before .before .before .before .before .before .before .before .before .before .before .before .before .before .before .before .before .put .ensures, c .before .before .before .before .before .before .before .before .before .before .before .before .before .before .before .before .before .before .before .before .before .before .put2 .ensures, c .before .before .before .before .before .before .before .before .before .before .before .before .before .before .before .before .before .before .put-word .ensures, c .before .before .before .before .before .before .before .before .before .before .before .before .before .put-figure .ensures, c .before .before .before .before .before .before .before .before .put-figure2 .ensures, of255-is _) (c .before .before .put-either .ensures))
+    and-inside _ _ _ (promise-inside _ _ _ _ _ _ _) (rw (← c .before .before .before .before .before .before .before .before .before .before .before .before .before .before .before .before .before .before .before .before .before .before .before .before .before .before .before .before .before .before .before .before .before .before .limit .ensures, c .before .before .before .before .before .before .before .before .before .before .before .before .before .before .before .before .before .before .before .before .before .before .before .before .before .before .before .before .before .before .before .before .put .ensures, c .before .before .before .before .before .before .before .before .before .before .before .before .before .before .before .before .before .before .before .before .before .before .before .before .before .before .before .put2 .ensures, c .before .before .before .before .before .before .before .before .before .before .before .before .before .before .before .before .before .before .before .before .before .before .before .put-word .ensures, c .before .before .before .before .before .before .before .before .before .before .before .before .before .before .before .before .before .before .put-figure .ensures, c .before .before .before .before .before .before .before .before .before .before .before .before .before .put-of-side .ensures, c .before .before .before .before .before .before .before .before .put-figure2 .ensures, of255-is _) (c .before .before .put-either .ensures))
 
 pub promise-spec : {M : Type 1} → statement M
 promise-spec =
     tie.close
     (tie.spec
-    grey-limit-requires
+    limit-requires
     put-requires
     slice-aggregate-put
     put-requires-2
     put-word-requires
     slice-aggregate-put-figure
     put-figure-requires
+    slice-aggregate-put-of-side
+    put-of-side-requires
     slice-aggregate-put-figure-2
     cast-put-figure
     put-figure-requires-2

@@ -6,8 +6,11 @@ use Rattle.verdict.proofs.put_planes.Tie as tie
 slice-aggregate-put-figure : tie.Need-slice-aggregate-put-figure
 slice-aggregate-put-figure c = search needs
 
-finished-requires : tie.Need-finished-requires
-finished-requires c κs = search needs
+less-requires : tie.Need-less-requires
+less-requires c κs = search needs
+
+cast-put-figure : tie.Need-cast-put-figure
+cast-put-figure c = search needs
 
 put-figure-requires : tie.Need-put-figure-requires
 put-figure-requires c κs = search needs
@@ -42,14 +45,15 @@ same-length c = search needs
 returns : tie.Need-returns
 unfolding planes
 returns c =
-    rw (← c .before .before .before .before .before .before .before .before .before .before .before .before .before .before .before .before .before .before .before .before .before .before .before .before .finished .ensures, c .before .before .before .before .before .before .before .before .before .before .before .before .before .before .before .before .before .before .before .before .before .before .put-figure .ensures, c .before .before .before .before .before .before .before .before .before .before .before .before .before .before .before .before .before .put-figure2 .ensures, c .before .before .before .before .before .before .before .before .before .before .before .before .put-figure3 .ensures, c .before .before .before .before .before .before .before .put-figure4 .ensures) (c .before .before .put .ensures)
+    rw (← c .before .before .before .before .before .before .before .before .before .before .before .before .before .before .before .before .before .before .before .before .before .before .before .before .less .ensures, c .before .before .before .before .before .before .before .before .before .before .before .before .before .before .before .before .before .before .before .before .before .before .put-figure .ensures, c .before .before .before .before .before .before .before .before .before .before .before .before .before .before .before .before .before .put-figure2 .ensures, c .before .before .before .before .before .before .before .before .before .before .before .before .put-figure3 .ensures, c .before .before .before .before .before .before .before .put-figure4 .ensures) (c .before .before .put .ensures)
 
 pub put-planes-spec : {M : Type 1} → statement M
 put-planes-spec =
     tie.close
     (tie.spec
     slice-aggregate-put-figure
-    finished-requires
+    less-requires
+    cast-put-figure
     put-figure-requires
     slice-aggregate-put-figure-2
     put-figure-requires-2

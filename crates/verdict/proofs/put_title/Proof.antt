@@ -1,4 +1,5 @@
 use Rattle.verdict.specs.Verdict.{titled}
+use Rattle.verdict.proofs.Laws.{thumbnail-is}
 use borrow.Author.Needs.{needs}
 use Rattle.verdict.proofs.put_title.Statement.{statement}
 use Rattle.verdict.proofs.put_title.Tie as tie
@@ -15,8 +16,20 @@ put-requires c κs = search needs
 put-requires-2 : tie.Need-put-requires-2
 put-requires-2 c κs = search needs
 
+slice-aggregate-put-either : tie.Need-slice-aggregate-put-either
+slice-aggregate-put-either c = search needs
+
+slice-aggregate-put-either-2 : tie.Need-slice-aggregate-put-either-2
+slice-aggregate-put-either-2 c = search needs
+
+put-either-requires : tie.Need-put-either-requires
+put-either-requires c κs = search needs
+
 slice-aggregate-put-figure : tie.Need-slice-aggregate-put-figure
 slice-aggregate-put-figure c = search needs
+
+less-requires : tie.Need-less-requires
+less-requires c κs = search needs
 
 side-requires : tie.Need-side-requires
 side-requires c κs = search needs
@@ -24,13 +37,19 @@ side-requires c κs = search needs
 put-figure-requires : tie.Need-put-figure-requires
 put-figure-requires c κs = search needs
 
+slice-aggregate-put-of-side : tie.Need-slice-aggregate-put-of-side
+slice-aggregate-put-of-side c = search needs
+
+put-of-side-requires : tie.Need-put-of-side-requires
+put-of-side-requires c κs = search needs
+
 same-length : tie.Need-same-length
 same-length c = search needs
 
 returns : tie.Need-returns
 unfolding titled
 returns c =
-    rw (c .before .before .before .before .before .before .before .before .before .before .before .before .before .before .before .before .before .put-word .ensures, c .before .before .before .before .before .before .before .before .before .before .before .before .put .ensures, c .before .before .before .before .before .before .before .before .put2 .ensures, ← c .before .before .before .before .side .ensures) (c .before .before .put-figure .ensures)
+    rw (c .before .before .before .before .before .before .before .before .before .before .before .before .before .before .before .before .before .before .before .before .before .before .before .before .before .before .before .before .before .put-word .ensures, c .before .before .before .before .before .before .before .before .before .before .before .before .before .before .before .before .before .before .before .before .before .before .before .before .put .ensures, c .before .before .before .before .before .before .before .before .before .before .before .before .before .before .before .before .before .before .before .before .put2 .ensures, thumbnail-is _ _, c .before .before .before .before .before .before .before .before .before .before .before .before .before .before .put-either .ensures, ← c .before .before .before .before .before .before .before .before .before .before .less .ensures, ← c .before .before .before .before .before .before .before .before .before .side .ensures, c .before .before .before .before .before .before .before .put-figure .ensures) (c .before .before .put-of-side .ensures)
 
 pub put-title-spec : {M : Type 1} → statement M
 put-title-spec =
@@ -40,8 +59,14 @@ put-title-spec =
     slice-aggregate-put
     put-requires
     put-requires-2
+    slice-aggregate-put-either
+    slice-aggregate-put-either-2
+    put-either-requires
     slice-aggregate-put-figure
+    less-requires
     side-requires
     put-figure-requires
+    slice-aggregate-put-of-side
+    put-of-side-requires
     same-length
     returns)

@@ -1,18 +1,21 @@
-use Rattle.verdict.specs.Verdict.{worth}
-use borrow.Author.Tests.{eq-eqb, ne-eqb}
 use mathlib.Core.Path.{sym, _∙_}
+use borrow.Author.Tests.{eq-eqb, ne-eqb}
+use Rattle.verdict.specs.Verdict.{worth}
 use borrow.Author.Needs.{needs}
 use Rattle.verdict.proofs.put_worth.Statement.{statement}
 use Rattle.verdict.proofs.put_worth.Tie as tie
 
 is-whole-requires : tie.Need-is-whole-requires
-is-whole-requires c κs = tt
+is-whole-requires c κs = search needs
 
 slice-aggregate-put : tie.Need-slice-aggregate-put
 slice-aggregate-put c = search needs
 
 put-requires : tie.Need-put-requires
 put-requires c κs = search needs
+
+put-kind-requires : tie.Need-put-kind-requires
+put-kind-requires c κs = search needs
 
 put-one-shot-requires : tie.Need-put-one-shot-requires
 put-one-shot-requires c κs = search needs
@@ -23,10 +26,10 @@ same-length c = search needs
 returns : tie.Need-returns
 unfolding worth
 returns c =
-    rw ((sym (c .before .before .before .before .before .before .before .before .before .before .is-whole .ensures) ∙ c .before .before .before .before .before .before .before .before .before .if1 .taken), c .before .before .before .before .before .before .put .ensures) (c .before .before .put-one-shot .ensures)
+    rw ((sym (c .before .before .before .before .before .before .before .before .before .before .before .before .before .before .is-whole .ensures) ∙ c .before .before .before .before .before .before .before .before .before .before .before .before .before .if1 .taken), c .before .before .before .before .before .before .before .before .before .before .put .ensures, c .before .before .before .before .before .before .put-kind .ensures) (c .before .before .put-one-shot .ensures)
 
-grey-limit-requires : tie.Need-grey-limit-requires
-grey-limit-requires c κs = search needs
+limit-requires : tie.Need-limit-requires
+limit-requires c κs = search needs
 
 slice-aggregate-put-2 : tie.Need-slice-aggregate-put-2
 slice-aggregate-put-2 c = search needs
@@ -40,7 +43,7 @@ same-length-2 c = search needs
 returns-2 : tie.Need-returns-2
 unfolding worth
 returns-2 c =
-    rw ((sym (c .before .before .before .before .before .before .before .before .is-whole .ensures) ∙ c .before .before .before .before .before .before .before .if1 .left), ← c .before .before .before .before .before .before .grey-limit .ensures, eq-eqb _ 255 (c .before .before .before .before .before .if2 .taken)) (c .before .before .put2 .ensures)
+    rw ((sym (c .before .before .before .before .before .before .before .before .is-whole .ensures) ∙ c .before .before .before .before .before .before .before .if1 .left), ← c .before .before .before .before .before .before .limit .ensures, eq-eqb _ 255 (c .before .before .before .before .before .if2 .taken)) (c .before .before .put2 .ensures)
 
 slice-aggregate-put-figure : tie.Need-slice-aggregate-put-figure
 slice-aggregate-put-figure c = search needs
@@ -66,18 +69,20 @@ same-length-3 c = search needs
 returns-3 : tie.Need-returns-3
 unfolding worth
 returns-3 c =
-    rw ((sym (c .before .before .before .before .before .before .before .before .before .before .before .before .before .before .before .before .before .is-whole .ensures) ∙ c .before .before .before .before .before .before .before .before .before .before .before .before .before .before .before .before .if1 .left), ← c .before .before .before .before .before .before .before .before .before .before .before .before .before .before .before .grey-limit .ensures, ne-eqb _ 255 (c .before .before .before .before .before .before .before .before .before .before .before .before .before .before .if2 .left), c .before .before .before .before .before .before .before .before .before .before .before .put-figure .ensures, c .before .before .before .before .before .before .put3 .ensures) (c .before .before .put-one-shot2 .ensures)
+    rw ((sym (c .before .before .before .before .before .before .before .before .before .before .before .before .before .before .before .before .before .is-whole .ensures) ∙ c .before .before .before .before .before .before .before .before .before .before .before .before .before .before .before .before .if1 .left), ← c .before .before .before .before .before .before .before .before .before .before .before .before .before .before .before .limit .ensures, ne-eqb _ 255 (c .before .before .before .before .before .before .before .before .before .before .before .before .before .before .if2 .left), c .before .before .before .before .before .before .before .before .before .before .before .put-figure .ensures, c .before .before .before .before .before .before .put3 .ensures) (c .before .before .put-one-shot2 .ensures)
 
 pub put-worth-spec : {M : Type 1} → statement M
 put-worth-spec =
     tie.close
-    (tie.spec is-whole-requires
+    (tie.spec
+    is-whole-requires
     slice-aggregate-put
     put-requires
+    put-kind-requires
     put-one-shot-requires
     same-length
     returns
-    grey-limit-requires
+    limit-requires
     slice-aggregate-put-2
     put-requires-2
     same-length-2

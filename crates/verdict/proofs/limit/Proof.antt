@@ -1,0 +1,18 @@
+use mathlib.Core.Path.{ap, _∙_}
+use Prim.Native.Nat.{ℕ}
+use Rattle.paper.specs.Sizes.{greyLimit}
+use borrow.Author.Needs.{needs}
+use Rattle.verdict.proofs.limit.Statement.{statement}
+use Rattle.verdict.proofs.limit.Tie as tie
+
+less-requires : tie.Need-less-requires
+less-requires c κs = search needs
+
+grey-limit-requires : tie.Need-grey-limit-requires
+grey-limit-requires c κs = search needs
+
+returns : tie.Need-returns
+returns c = c .grey-limit .ensures ∙ ap (λ (L : ℕ). greyLimit L (c .before .before .args .unfinished)) (c .before .less .ensures)
+
+pub limit-spec : {M : Type 1} → statement M
+limit-spec = tie.close (tie.spec less-requires grey-limit-requires returns)
