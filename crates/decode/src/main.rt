@@ -1,21 +1,27 @@
-// decode LABEL < record > picture.pgm
+// decode [--thumbnail R] LABEL < record > picture.pgm
 //
-// Makes the picture of a record, whole or cut anywhere, side 8 to 64, if it has the label expected. Standard error says what
-// it is worth, the verdict first; where something is wrong, it says what, and nothing is written. docs/MEMORY.md has the sum
-// of the buffers.
+// Makes the picture of a record, whole or cut anywhere, side 8 to 64, if it has the label expected, or a thumbnail of it, its
+// side halved R times. Standard error says what it is worth, the verdict first; where something is wrong, it says what, and
+// nothing is written. docs/MEMORY.md has the sum of the buffers.
 use desk::MOST_GREYS;
 use desk::PAYLOAD_ROOM;
 use desk::RECORD_BYTES;
+use desk::Wanted;
 use libc::STDERR_FILENO;
 use libc::STDIN_FILENO;
 use libc::STDOUT_FILENO;
 use record::Kept;
+use square_pgm::MOST_HELD;
 
 // The program's own text, also for a person who used it wrongly.
 fn write_help(fd: i32) {
     pipes::write_all(
         fd,
-        b"usage: decode LABEL < record > picture.pgm\n\nMakes the picture (PGM) of a record, whole or cut anywhere, side 8 to 64.\n  LABEL  the label expected: eight characters, 0-9 or A-Z; leading zeros count\n",
+        b"usage: decode [--thumbnail R] LABEL < record > picture.pgm\n\nMakes the picture (PGM) of a record, whole or cut anywhere, side 8 to 64.\n  LABEL  the label expected: eight characters, 0-9 or A-Z; leading zeros count\n",
+    );
+    pipes::write_all(
+        fd,
+        b"  R      makes a thumbnail of it, the side halved R times: from 1 to the levels\n         of the record\n",
     );
     pipes::write_all(
         fd,
@@ -39,26 +45,46 @@ fn short_line(count: usize, line: &mut [u8]) -> usize {
     words::put(b" of 512 bytes (6)\n", line, came)
 }
 
-fn side_line(label: &[u8], k: u32, line: &mut [u8]) -> usize {
+fn put_refused(label: &[u8], line: &mut [u8]) -> usize {
     let verdict = words::put(b"REFUSED ", line, 0);
-    let named = words::put(label, line, verdict);
+    words::put(label, line, verdict)
+}
+
+fn side_line(label: &[u8], k: u32, line: &mut [u8]) -> usize {
+    let named = put_refused(label, line);
     let side = words::put_figure(b": side ", verdict::side(k), line, named);
     words::put(b", and this program holds sides up to 64\n", line, side)
 }
 
-// The header with its promise, and the picture; false if they could not be written.
-fn write_picture(kept: Kept, unfinished: u32, label: &[u8], picture: &[u8]) -> bool {
-    let mut promise = [0u8; 128];
-    let told = verdict::promise(label, kept.levels, unfinished, kept.blocks, &mut promise);
-    let mut header = [0u8; 160];
-    let count = square_pgm::write_header(kept.k, &promise[..told], &mut header);
+fn halvings_line(label: &[u8], levels: u32, line: &mut [u8]) -> usize {
+    let named = put_refused(label, line);
+    let most = words::put_figure(b": R goes from 1 to ", levels as u64, line, named);
+    words::put(b", the levels of this record (13)\n", line, most)
+}
+
+// The header with its promise, and the greys of what is shown; false if they could not be written.
+fn write_picture(kept: Kept, halvings: u32, unfinished: u32, label: &[u8], picture: &[u8]) -> bool {
+    let k = sizes::less(kept.k, halvings);
+    let mut promise = [0u8; 160];
+    let told = verdict::promise(
+        label,
+        kept.k,
+        kept.levels,
+        halvings,
+        unfinished,
+        kept.blocks,
+        &mut promise,
+    );
+    let mut header = [0u8; 208];
+    let count = square_pgm::write_header(k, &promise[..told], &mut header);
     if !pipes::write_front(STDOUT_FILENO, &header, count) {
         return false;
     }
-    pipes::write_front(STDOUT_FILENO, picture, desk::area(kept.k))
+    pipes::write_front(STDOUT_FILENO, picture, desk::area(k))
 }
 
 fn rebuild(
+    wanted: Wanted,
     kept: Kept,
     payload: &[u8],
     label: &[u8],
@@ -69,6 +95,7 @@ fn rebuild(
     let mut numbers = [0i32; MOST_GREYS];
     let mut working = [0i32; MOST_GREYS];
     let settled = desk::rebuild(
+        wanted,
         kept.k,
         kept.levels,
         kept.n,
@@ -78,16 +105,21 @@ fn rebuild(
         picture,
         &mut working,
     );
+    if settled.refusal == 13 {
+        return halvings_line(label, kept.levels, line);
+    }
     if settled.refusal != 0 {
         return remarks::refused(settled.refusal, line);
     }
-    if !write_picture(kept, settled.unfinished, label, picture) {
+    let halvings = desk::halvings(wanted);
+    if !write_picture(kept, halvings, settled.unfinished, label, picture) {
         return words::put(b"REFUSED: standard output could not be written\n", line, 0);
     }
     verdict::report(
         label,
         kept.k,
         kept.levels,
+        halvings,
         kept.n,
         kept.blocks,
         kept.bits,
@@ -99,7 +131,7 @@ fn rebuild(
 
 // The blocks are of no use once they are read and what ended the run is said, and their memory is the picture's: every grey
 // of it is written, or none is shown.
-fn decode(room: &mut [u8], count: usize, label: &[u8], line: &mut [u8]) -> usize {
+fn decode(wanted: Wanted, room: &mut [u8], count: usize, label: &[u8], line: &mut [u8]) -> usize {
     if room.len() < count {
         return 0;
     }
@@ -114,51 +146,71 @@ fn decode(room: &mut [u8], count: usize, label: &[u8], line: &mut [u8]) -> usize
     if kept.refusal != 0 {
         return remarks::refused(kept.refusal, line);
     }
-    if 6 < kept.k {
+    if MOST_HELD < kept.k {
         return side_line(label, kept.k, line);
     }
     let mut ended = [0u8; 320];
     let told = faults::ended(kept.ended, &room[..count], label, kept.blocks, &mut ended);
-    rebuild(kept, &payload, label, &ended[..told], room, line)
+    rebuild(wanted, kept, &payload, label, &ended[..told], room, line)
 }
 
-fn read_and_decode(label: &[u8], line: &mut [u8]) -> usize {
-    let mut room = [0u8; RECORD_BYTES];
-    let filled = pipes::read_all(STDIN_FILENO, &mut room);
+fn read_and_decode(wanted: Wanted, room: &mut [u8], label: &[u8], line: &mut [u8]) -> usize {
+    let filled = pipes::read_all(STDIN_FILENO, room);
     if filled.failed {
         return words::put(b"REFUSED: standard input could not be read\n", line, 0);
     }
-    decode(&mut room, filled.count, label, line)
+    decode(wanted, room, filled.count, label, line)
 }
 
-// No label begins with a dash.
-fn is_option(word: &[u8]) -> bool {
-    if word.len() == 0 {
-        return false;
+fn show_picture(label: &[u8], line: &mut [u8]) -> usize {
+    let mut room = [0u8; RECORD_BYTES];
+    read_and_decode(Wanted::Picture, &mut room, label, line)
+}
+
+// R is read through the room that the blocks will have.
+fn show_thumbnail(label: &[u8], line: &mut [u8]) -> usize {
+    let mut room = [0u8; RECORD_BYTES];
+    let halvings = arguments::number(2, &mut room);
+    if halvings.next == 0 {
+        return arguments::number_line(b"R", RECORD_BYTES, line);
     }
-    word[0] == b'-'
+    read_and_decode(Wanted::Thumbnail(halvings.value), &mut room, label, line)
 }
 
-fn run(line: &mut [u8]) -> usize {
+// What stands behind --thumbnail: R and the label.
+fn run_thumbnail(line: &mut [u8]) -> usize {
     let mut label = [0u8; 16];
-    let count = os::arg(1, &mut label);
-    if fields::same_bytes(&label[..count], b"--help") {
-        write_help(STDOUT_FILENO);
-        return 0;
-    }
-    if fields::same_bytes(&label[..count], b"--version") {
-        pipes::write_all(STDOUT_FILENO, b"decode 0.3.0\n");
-        return 0;
-    }
-    if os::arg_count() != 2 || is_option(&label[..count]) {
+    let count = os::arg(3, &mut label);
+    if os::arg_count() != 4 || arguments::is_option(&label[..count]) {
         write_help(STDERR_FILENO);
         return 0;
     }
-    read_and_decode(&label[..count], line)
+    show_thumbnail(&label[..count], line)
+}
+
+fn run(line: &mut [u8]) -> usize {
+    let mut word = [0u8; 16];
+    let count = os::arg(1, &mut word);
+    if fields::same_bytes(&word[..count], b"--help") {
+        write_help(STDOUT_FILENO);
+        return 0;
+    }
+    if fields::same_bytes(&word[..count], b"--version") {
+        pipes::write_all(STDOUT_FILENO, b"decode 0.3.0\n");
+        return 0;
+    }
+    if fields::same_bytes(&word[..count], b"--thumbnail") {
+        return run_thumbnail(line);
+    }
+    if os::arg_count() != 2 || arguments::is_option(&word[..count]) {
+        write_help(STDERR_FILENO);
+        return 0;
+    }
+    show_picture(&word[..count], line)
 }
 
 fn main() {
-    let mut line = [0u8; 640];
+    let mut line = [0u8; 672];
     let count = run(&mut line);
     pipes::write_front(STDERR_FILENO, &line, count);
 }

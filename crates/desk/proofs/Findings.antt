@@ -1,12 +1,10 @@
 -- What is found in a PGM, by what was tested on the way there.
-use mathlib.Core.Path.{_≡_, refl, sym, ap, _∙_}
-use mathlib.Core.Bool.{Bool, true, false, not}
-use Prim.Native.Nat.{ℕ, suc, _+_, _-_, _^_, _<_, _≤_}
-use native.Mathlib.Omega.{arith}
-use lib.Dec.{leb, eqb}
-use borrow.Author.Tests.{eq-eqb, ne-eqb, le-leb, lt-leb, leb-true}
+use mathlib.Core.Path.{_≡_}
+use mathlib.Core.Bool.{true, false}
+use Prim.Native.Nat.{ℕ, _+_, _^_, _<_, _≤_}
+use borrow.Author.Tests.{eq-eqb, ne-eqb, le-leb, lt-leb}
 use Rattle.pgm.specs.declared.Header.{Header}
-use Rattle.square_pgm.specs.Sides.{heldSize, sideOf}
+use Rattle.square_pgm.specs.Sides.{mostHeld, sideOf}
 use Rattle.desk.specs.declared.Found.{Found}
 use Rattle.desk.specs.Desk.{areaOf, faultOf, foundOf}
 
@@ -34,13 +32,11 @@ module _ (header : Header) (bytes : ℕ) where
         unfolding foundOf faultOf
         found-is h = rw (r, eq-eqb (header .most) 255 m, ← e, ne-eqb k 0 s, le-leb (header .start + areaOf k) bytes h)
 
--- no square with another k is held
-pub no-area : (k : ℕ) → (k ≡ 3 → ⊥) → (k ≡ 4 → ⊥) → (k ≡ 5 → ⊥) → (k ≡ 6 → ⊥) → 0 ≡ areaOf k
-unfolding areaOf heldSize
-no-area k a b c d = go (leb 3 k) refl
-  where
-    go : (t : Bool) → leb 3 k ≡ t → 0 ≡ areaOf k
-    go false e = rw e
-    go true e =
-        let f : leb k 6 ≡ false = lt-leb k 6 (omega (arith, leb-true 3 k e)) in
-        rw (e, f)
+-- the greys of a square
+pub no-area : (k : ℕ) → mostHeld < k → 0 ≡ areaOf k
+unfolding areaOf
+no-area k h = rw (lt-leb k mostHeld h)
+
+pub area-is : (k : ℕ) → k ≤ mostHeld → 4 ^ k ≡ areaOf k
+unfolding areaOf
+area-is k h = rw (le-leb k mostHeld h)

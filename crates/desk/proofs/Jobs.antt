@@ -9,9 +9,10 @@ use lib.IntN.{ℤ}
 use lib.ListN.{length, take, drop}
 use borrow.Author.Tests.{le-leb, lt-leb}
 use Rattle.sizes.proofs.Refusals.{refused-is, done-is}
-use Rattle.paper.specs.Jobs.{Forward, forwardJob, Coding, codingJob, Writing, writingJob, Decoding, decodingJob, Inverse, inverseJob}
+use Rattle.paper.specs.Jobs.{Forward, forwardJob, Coding, codingJob, Writing, writingJob, Decoding, decodingJob, Inverse}
 use Rattle.paper.specs.Lists.{pick}
-use Rattle.desk.specs.Desk.{areaOf, Encoding, encodingOf, encodingIn, Rebuilding, rebuildingOf, rebuildingIn}
+use Rattle.desk.specs.declared.Wanted.{Wanted}
+use Rattle.desk.specs.Desk.{areaOf, Encoding, encodingOf, encodingIn, halvingsOf, shownJob, Rebuilding, rebuildingOf, rebuildingIn}
 
 -- ---- a picture made a record
 module _ (k L : ℕ) (picture label : List ℕ) (limit : ℕ) (numbers : List ℤ) (bytes room : List ℕ) (f : Forward) (e : forwardJob k L picture numbers ≡ f) where
@@ -28,13 +29,13 @@ module _ (k L : ℕ) (picture label : List ℕ) (limit : ℕ) (numbers : List �
     unfolding encodingOf
     encoded-is w y g = rw (e, d, g) (done-is (f .refusal) _ _ z ∙ done-is (c .refusal) _ _ y)
 
--- ---- bits made a picture
-module _ (k L n : ℕ) (bytes : List ℕ) (b : ℕ) (numbers : List ℤ) (picture : List ℕ) (room : List ℤ) (d : Decoding) (e : decodingJob k L n numbers bytes b ≡ d) where
-  pub decode-refused : (d .refusal ≡ 0 → ⊥) → rebuildingOf k L n bytes b numbers picture room ≡ record { refusal = d .refusal; unfinished = d .unfinished; read = d .read; numbers = d .numbers; picture = picture; room = room }
+-- ---- bits made what is wanted
+module _ (wanted : Wanted) (k L n : ℕ) (bytes : List ℕ) (b : ℕ) (numbers : List ℤ) (picture : List ℕ) (room : List ℤ) (d : Decoding) (e : decodingJob k L n numbers bytes b ≡ d) where
+  pub decode-refused : (d .refusal ≡ 0 → ⊥) → rebuildingOf wanted k L n bytes b numbers picture room ≡ record { refusal = d .refusal; unfinished = d .unfinished; read = d .read; numbers = d .numbers; picture = picture; room = room }
   unfolding rebuildingOf
   decode-refused h = rw e (refused-is (d .refusal) _ _ (omega arith))
 
-  pub rebuilt-is : (i : Inverse) → d .refusal ≡ 0 → inverseJob k L (d .numbers) picture room ≡ i → rebuildingOf k L n bytes b numbers picture room ≡ record { refusal = i .refusal; unfinished = d .unfinished; read = d .read; numbers = d .numbers; picture = i .picture; room = i .room }
+  pub rebuilt-is : (i : Inverse) → d .refusal ≡ 0 → shownJob wanted k L (d .numbers) picture room ≡ i → rebuildingOf wanted k L n bytes b numbers picture room ≡ record { refusal = i .refusal; unfinished = d .unfinished; read = d .read; numbers = d .numbers; picture = i .picture; room = i .room }
   unfolding rebuildingOf
   rebuilt-is i z f = rw (e, f) (done-is (d .refusal) _ _ z)
 
@@ -59,24 +60,24 @@ module _ (k L : ℕ) (input : List ℕ) (start : ℕ) (label : List ℕ) (limit 
       let s : start + area - start ≡ area = omega arith in
       rw (← a, le-leb (start + area) (length input) l, le-leb area (length numbers) h, rw s at f)
 
-module _ (k L n : ℕ) (bytes : List ℕ) (b : ℕ) (numbers : List ℤ) (picture : List ℕ) (room : List ℤ) (area : ℕ) (a : area ≡ areaOf k) where
+module _ (wanted : Wanted) (k L n : ℕ) (bytes : List ℕ) (b : ℕ) (numbers : List ℤ) (picture : List ℕ) (room : List ℤ) (area shown : ℕ) (a : area ≡ areaOf k) (s : shown ≡ areaOf (k - halvingsOf wanted)) where
   abbrev none : Rebuilding
   none = record { refusal = 3; unfinished = 0; read = 0; numbers = numbers; picture = picture; room = room }
 
-  pub no-numbers : length numbers < area → rebuildingIn k L n bytes b numbers picture room ≡ none
+  pub no-numbers : length numbers < area → rebuildingIn wanted k L n bytes b numbers picture room ≡ none
   unfolding rebuildingIn
   no-numbers h = rw (← a, lt-leb area (length numbers) h)
 
-  pub no-picture : area ≤ length numbers → length picture < area → rebuildingIn k L n bytes b numbers picture room ≡ none
+  pub no-picture : area ≤ length numbers → length picture < shown → rebuildingIn wanted k L n bytes b numbers picture room ≡ none
   unfolding rebuildingIn
-  no-picture l h = rw (← a, le-leb area (length numbers) l, lt-leb area (length picture) h)
+  no-picture l h = rw (← a, ← s, le-leb area (length numbers) l, lt-leb shown (length picture) h)
 
-  pub no-working : area ≤ length numbers → area ≤ length picture → length room < area → rebuildingIn k L n bytes b numbers picture room ≡ none
+  pub no-working : area ≤ length numbers → shown ≤ length picture → length room < shown → rebuildingIn wanted k L n bytes b numbers picture room ≡ none
   unfolding rebuildingIn
-  no-working l p h = rw (← a, le-leb area (length numbers) l, le-leb area (length picture) p, lt-leb area (length room) h)
+  no-working l p h = rw (← a, ← s, le-leb area (length numbers) l, le-leb shown (length picture) p, lt-leb shown (length room) h)
 
-  pub rebuilt-front : (r : Rebuilding) → area ≤ length numbers → area ≤ length picture → area ≤ length room
-      → rebuildingOf k L n bytes b (take area numbers) (take area picture) (take area room) ≡ r
-      → rebuildingIn k L n bytes b numbers picture room ≡ record { refusal = r .refusal; unfinished = r .unfinished; read = r .read; numbers = r .numbers ++ drop area numbers; picture = r .picture ++ drop area picture; room = r .room ++ drop area room }
+  pub rebuilt-front : (r : Rebuilding) → area ≤ length numbers → shown ≤ length picture → shown ≤ length room
+      → rebuildingOf wanted k L n bytes b (take area numbers) (take shown picture) (take shown room) ≡ r
+      → rebuildingIn wanted k L n bytes b numbers picture room ≡ record { refusal = r .refusal; unfinished = r .unfinished; read = r .read; numbers = r .numbers ++ drop area numbers; picture = r .picture ++ drop shown picture; room = r .room ++ drop shown room }
   unfolding rebuildingIn
-  rebuilt-front r l p q f = rw (← a, le-leb area (length numbers) l, le-leb area (length picture) p, le-leb area (length room) q, f)
+  rebuilt-front r l p q f = rw (← a, ← s, le-leb area (length numbers) l, le-leb shown (length picture) p, le-leb shown (length room) q, f)

@@ -1,9 +1,10 @@
--- What the programs make is what the demands speak of: a picture's journey into a record, and out of what is left of it. Both
--- are said of the contracts of `encode` and `rebuild`, as the checker reads them from src/lib.rt (`Post` of their `Reads`).
+-- What the programs make is what the demands speak of: a picture's journey into a record, and out of what is left of it, whole or as
+-- a thumbnail. Both are said of the contracts of `encode` and `rebuild`, as the checker reads them from src/lib.rt (`Post` of their
+-- `Reads`).
 use mathlib.Core.Path.{_≡_, refl, sym, ap, _∙_, subst}
 use mathlib.Core.Bool.{Bool, true, false, _&&_}
 use mathlib.Core.List.{List, _++_}
-use Prim.Native.Nat.{ℕ, zero, suc, _+_}
+use Prim.Native.Nat.{ℕ, zero, suc, _+_, _-_}
 use native.Mathlib.Omega.{arith}
 use denote.Ref.{now}
 use denote.Triple.Clauses.{AtExit}
@@ -15,9 +16,11 @@ use lib.IntN.{ℤ}
 use lib.ListN.{length, take, drop}
 use Rattle.paper.specs.Lists.{pick}
 use Rattle.paper.specs.Sizes.{judged}
-use Rattle.paper.specs.Jobs.{Forward, forwardJob, Coding, codingJob, Writing, writingJob, Decoding, decodingJob, Inverse, inverseJob, Read, readingJob}
-use Rattle.label.specs.Journey.{intoRecord, Seen, outOfRecord}
-use Rattle.desk.specs.Desk.{areaOf, Encoding, encodingOf, encodingIn, Rebuilding, rebuildingOf, rebuildingIn}
+use Rattle.paper.specs.Jobs.{Forward, forwardJob, Coding, codingJob, Writing, writingJob, Decoding, decodingJob, Inverse, inverseJob, thumbnailJob, Read, readingJob}
+use Rattle.label.specs.Journey.{intoRecord, Seen, seenBy, outOfRecord, thumbnailOutOfRecord}
+use Rattle.desk.specs.declared.Wanted.{Wanted}
+use Rattle.desk.specs.declared.Wanted.the-variants.{Picture, Thumbnail}
+use Rattle.desk.specs.Desk.{areaOf, Encoding, encodingOf, encodingIn, halvingsOf, shownJob, Rebuilding, rebuildingOf, rebuildingIn}
 use Rattle.desk.proofs.encode as encode-fn
 use Rattle.desk.proofs.encode.Kinds as encode-kinds
 use Rattle.desk.proofs.encode.Reads as encode-contract
@@ -85,34 +88,49 @@ pub record Shown (seen : Seen) (area : ℕ) (before after : List ℕ) (unfinishe
   pub picture : after ≡ seen .rebuilt .picture ++ drop area before
   pub planes : unfinished ≡ seen .decoded .unfinished
 
-rebuilding-out-of-record : (label s payload : List ℕ) (numbers : List ℤ) (picture : List ℕ) (room : List ℤ) (q : Rebuilding) →
-    let read = readingJob s label payload in
-    let area = areaOf (read .k) in
-    rebuildingIn (read .k) (read .L) (read .n) (read .room) (read .bits) numbers picture room ≡ q → q .refusal ≡ 0
-    → Shown (outOfRecord label s payload (take area numbers) (take area picture) (take area room)) area picture (q .picture) (q .unfinished)
-unfolding rebuildingIn rebuildingOf outOfRecord
-rebuilding-out-of-record label s payload numbers picture room q p h =
-    let read = readingJob s label payload in
-    let area = areaOf (read .k) in
-    let is = not-3 (λ (q : Rebuilding). q .refusal) (leb area (length numbers) && leb area (length picture) && leb area (length room)) _ _ q refl p h in
-    let d = decodingJob (read .k) (read .L) (read .n) (take area numbers) (read .room) (read .bits) in
-    let i = inverseJob (read .k) (read .L) (d .numbers) (take area picture) (take area room) in
-    let all = one-refused (d .refusal) d i (take area picture) (take area room) (ap (λ (q : Rebuilding). q .refusal) is ∙ h) in
-    record {
-      accepted = all .0;
-      picture = sym (ap (λ (q : Rebuilding). q .picture) is) ∙ ap (λ (l : List ℕ). l ++ drop area picture) (sym (all .1));
-      planes = sym (ap (λ (q : Rebuilding). q .unfinished) is) ∙ sym (all .2);
-    }
+-- the journey of what is wanted: to the picture, or to a thumbnail
+abbrev pub journeyOf : Wanted → List ℕ → List ℕ → List ℕ → List ℤ → List ℕ → List ℤ → Seen
+journeyOf Picture label s payload numbers picture room = outOfRecord label s payload numbers picture room
+journeyOf (Thumbnail r) label s payload numbers picture room = thumbnailOutOfRecord r label s payload numbers picture room
 
--- Where rebuild, lent what the reader gave, does not refuse, the picture and the unfinished planes are the journey's.
+journey-is : (wanted : Wanted) (label s payload : List ℕ) (numbers : List ℤ) (picture : List ℕ) (room : List ℤ)
+    → journeyOf wanted label s payload numbers picture room ≡ seenBy (λ k L decoded. shownJob wanted k L decoded picture room) label s payload numbers
+unfolding outOfRecord thumbnailOutOfRecord
+journey-is Picture label s payload numbers picture room = refl
+journey-is (Thumbnail r) label s payload numbers picture room = refl
+
+rebuilding-out-of-record : (wanted : Wanted) (label s payload : List ℕ) (numbers : List ℤ) (picture : List ℕ) (room : List ℤ) (q : Rebuilding) →
+    let read = readingJob s label payload in
+    let area = areaOf (read .k) in
+    let shown = areaOf (read .k - halvingsOf wanted) in
+    rebuildingIn wanted (read .k) (read .L) (read .n) (read .room) (read .bits) numbers picture room ≡ q → q .refusal ≡ 0
+    → Shown (journeyOf wanted label s payload (take area numbers) (take shown picture) (take shown room)) shown picture (q .picture) (q .unfinished)
+unfolding rebuildingIn rebuildingOf
+rebuilding-out-of-record wanted label s payload numbers picture room q p h =
+    let read = readingJob s label payload in
+    let area = areaOf (read .k) in
+    let shown = areaOf (read .k - halvingsOf wanted) in
+    let is = not-3 (λ (q : Rebuilding). q .refusal) (leb area (length numbers) && leb shown (length picture) && leb shown (length room)) _ _ q refl p h in
+    let d = decodingJob (read .k) (read .L) (read .n) (take area numbers) (read .room) (read .bits) in
+    let i = shownJob wanted (read .k) (read .L) (d .numbers) (take shown picture) (take shown room) in
+    let all = one-refused (d .refusal) d i (take shown picture) (take shown room) (ap (λ (q : Rebuilding). q .refusal) is ∙ h) in
+    rw (journey-is wanted label s payload (take area numbers) (take shown picture) (take shown room)) (record {
+      accepted = all .0;
+      picture = sym (ap (λ (q : Rebuilding). q .picture) is) ∙ ap (λ (l : List ℕ). l ++ drop shown picture) (sym (all .1));
+      planes = sym (ap (λ (q : Rebuilding). q .unfinished) is) ∙ sym (all .2);
+    })
+
+-- Where rebuild, lent what the reader gave, does not refuse, the greys and the unfinished planes are those of the journey.
 pub rebuild-out-of-record : (label s payload : List ℕ) → let read = readingJob s label payload in
     (κs : Lfts 4) (a : ArgsD rebuild-fn.signature κs) (r : ResD rebuild-fn.signature κs) (e : AtExit (endedOf 4 rebuild-kinds.ps rebuild-kinds.r) κs)
     → rebuild-contract.Post κs a r e → r .refusal ≡ 0
-    → a .0 ≡ read .k → a .1 .0 ≡ read .L → a .1 .1 .0 ≡ read .n → now (a .1 .1 .1 .0) ≡ read .room → a .1 .1 .1 .1 .0 ≡ read .bits →
+    → a .1 .0 ≡ read .k → a .1 .1 .0 ≡ read .L → a .1 .1 .1 .0 ≡ read .n → now (a .1 .1 .1 .1 .0) ≡ read .room → a .1 .1 .1 .1 .1 .0 ≡ read .bits →
+    let wanted = a .0 in
     let area = areaOf (read .k) in
-    let numbers = now (a .1 .1 .1 .1 .1 .0) in
-    let picture = now (a .1 .1 .1 .1 .1 .1 .0) in
-    let room = now (a .1 .1 .1 .1 .1 .1 .1 .0) in
-    Shown (outOfRecord label s payload (take area numbers) (take area picture) (take area room)) area picture (now (e .1 .1 .1 .1 .1 .1 .0)) (r .unfinished)
+    let shown = areaOf (read .k - halvingsOf wanted) in
+    let numbers = now (a .1 .1 .1 .1 .1 .1 .0) in
+    let picture = now (a .1 .1 .1 .1 .1 .1 .1 .0) in
+    let room = now (a .1 .1 .1 .1 .1 .1 .1 .1 .0) in
+    Shown (journeyOf wanted label s payload (take area numbers) (take shown picture) (take shown room)) shown picture (now (e .1 .1 .1 .1 .1 .1 .1 .0)) (r .unfinished)
 rebuild-out-of-record label s payload κs a r e x h k L n bytes b =
-    rebuilding-out-of-record label s payload _ _ _ _ (sym (λ i. rebuildingIn (k i) (L i) (n i) (bytes i) (b i) (now (a .1 .1 .1 .1 .1 .0)) (now (a .1 .1 .1 .1 .1 .1 .0)) (now (a .1 .1 .1 .1 .1 .1 .1 .0))) ∙ x) h
+    rebuilding-out-of-record (a .0) label s payload _ _ _ _ (sym (λ i. rebuildingIn (a .0) (k i) (L i) (n i) (bytes i) (b i) (now (a .1 .1 .1 .1 .1 .1 .0)) (now (a .1 .1 .1 .1 .1 .1 .1 .0)) (now (a .1 .1 .1 .1 .1 .1 .1 .1 .0))) ∙ x) h

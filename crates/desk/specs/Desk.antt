@@ -1,5 +1,5 @@
 -- What the desk's programs do with the bytes they are given: which picture a PGM holds, a picture made a record, and bits
--- made a picture. The jobs follow one another, and the first refusal ends it.
+-- made a picture or a thumbnail of it. The jobs follow one another, and the first refusal ends it.
 use mathlib.Core.Bool.{Bool, not, _&&_}
 use mathlib.Core.List.{List, _++_}
 use Prim.Native.Nat.{ℕ, _+_, _-_, _^_}
@@ -8,14 +8,16 @@ use lib.IntN.{ℤ}
 use lib.ListN.{take, drop, length}
 use Rattle.paper.specs.Lists.{pick}
 use Rattle.paper.specs.Sizes.{unless, judged}
-use Rattle.paper.specs.Jobs.{Forward, forwardJob, Coding, codingJob, Writing, writingJob, Decoding, decodingJob, Inverse, inverseJob}
+use Rattle.paper.specs.Jobs.{Forward, forwardJob, Coding, codingJob, Writing, writingJob, Decoding, decodingJob, Inverse, inverseJob, thumbnailJob}
 use Rattle.pgm.specs.declared.Header.{Header}
-use Rattle.square_pgm.specs.Sides.{heldSize, sideOf}
+use Rattle.square_pgm.specs.Sides.{mostHeld, sideOf}
 use Rattle.desk.specs.declared.Found.{Found}
+use Rattle.desk.specs.declared.Wanted.{Wanted}
+use Rattle.desk.specs.declared.Wanted.the-variants.{Picture, Thumbnail}
 
--- the greys of a square that is held
+-- the greys of a square up to the largest that is held; 0 beyond
 unfoldable pub areaOf : ℕ → ℕ
-areaOf k = pick (heldSize k) (4 ^ k) 0
+areaOf k = pick (leb k mostHeld) (4 ^ k) 0
 
 -- what is wrong with a PGM of so many bytes: 1 no header, 2 its greys do not run to 255, 3 no square that is held,
 -- 4 greys are missing; bytes behind the raster are not looked at, since more pictures may follow
@@ -53,7 +55,17 @@ encodingOf k L picture label limit numbers bytes room =
     (λ r. record { refusal = r; blocks = 0; numbers = f .numbers; bytes = c .bytes; room = room })
     (record { refusal = w .refusal; blocks = w .blocks; numbers = f .numbers; bytes = c .bytes; room = w .room }))
 
--- ---- bits made a picture
+-- ---- bits made what is wanted: the picture, or a thumbnail of it
+-- how often its side was halved
+abbrev pub halvingsOf : Wanted → ℕ
+halvingsOf Picture = 0
+halvingsOf (Thumbnail r) = r
+
+-- the job that makes it of the numbers
+abbrev pub shownJob : Wanted → ℕ → ℕ → List ℤ → List ℕ → List ℤ → Inverse
+shownJob Picture k L numbers picture room = inverseJob k L numbers picture room
+shownJob (Thumbnail r) k L numbers picture room = thumbnailJob k L r numbers picture room
+
 pub record Rebuilding : Type 0 where
   pub refusal : ℕ
   pub unfinished : ℕ
@@ -62,10 +74,10 @@ pub record Rebuilding : Type 0 where
   pub picture : List ℕ
   pub room : List ℤ
 
-unfoldable pub rebuildingOf : ℕ → ℕ → ℕ → List ℕ → ℕ → List ℤ → List ℕ → List ℤ → Rebuilding
-rebuildingOf k L n bytes b numbers picture room =
+unfoldable pub rebuildingOf : Wanted → ℕ → ℕ → ℕ → List ℕ → ℕ → List ℤ → List ℕ → List ℤ → Rebuilding
+rebuildingOf wanted k L n bytes b numbers picture room =
     let d = decodingJob k L n numbers bytes b in
-    let i = inverseJob k L (d .numbers) picture room in
+    let i = shownJob wanted k L (d .numbers) picture room in
     judged (d .refusal)
     (λ r. record { refusal = r; unfinished = d .unfinished; read = d .read; numbers = d .numbers; picture = picture; room = room })
     (record { refusal = i .refusal; unfinished = d .unfinished; read = d .read; numbers = d .numbers; picture = i .picture; room = i .room })
@@ -80,17 +92,19 @@ encodingIn k L input start label limit numbers bytes room =
     (record { refusal = e .refusal; blocks = e .blocks; numbers = e .numbers ++ drop area numbers; bytes = e .bytes; room = e .room })
     (record { refusal = 3; blocks = 0; numbers = numbers; bytes = bytes; room = room })
 
-unfoldable pub rebuildingIn : ℕ → ℕ → ℕ → List ℕ → ℕ → List ℤ → List ℕ → List ℤ → Rebuilding
-rebuildingIn k L n bytes b numbers picture room =
+-- the numbers are those of the picture, the greys those of what is wanted
+unfoldable pub rebuildingIn : Wanted → ℕ → ℕ → ℕ → List ℕ → ℕ → List ℤ → List ℕ → List ℤ → Rebuilding
+rebuildingIn wanted k L n bytes b numbers picture room =
     let area = areaOf k in
-    let r = rebuildingOf k L n bytes b (take area numbers) (take area picture) (take area room) in
-    pick (leb area (length numbers) && leb area (length picture) && leb area (length room))
+    let shown = areaOf (k - halvingsOf wanted) in
+    let r = rebuildingOf wanted k L n bytes b (take area numbers) (take shown picture) (take shown room) in
+    pick (leb area (length numbers) && leb shown (length picture) && leb shown (length room))
     (record {
       refusal = r .refusal;
       unfinished = r .unfinished;
       read = r .read;
       numbers = r .numbers ++ drop area numbers;
-      picture = r .picture ++ drop area picture;
-      room = r .room ++ drop area room;
+      picture = r .picture ++ drop shown picture;
+      room = r .room ++ drop shown room;
     })
     (record { refusal = 3; unfinished = 0; read = 0; numbers = numbers; picture = picture; room = room })

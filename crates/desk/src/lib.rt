@@ -1,10 +1,12 @@
 // What the desk's programs do between reading and writing: which picture a PGM holds, a picture made a record, and bits
-// made a picture. All memory is lent.
+// made a picture or a thumbnail of it. All memory is lent.
 ghost use mathlib.Core.Path.{_≡_};
-ghost use Rattle.desk.specs.Desk.{areaOf, foundOf, encodingOf, encodingIn, rebuildingOf, rebuildingIn};
+ghost use Prim.Native.Nat.{_-_};
+ghost use Rattle.desk.specs.Desk.{areaOf, foundOf, encodingOf, encodingIn, halvingsOf, shownJob, rebuildingOf, rebuildingIn};
 use decoding::Settled;
 use pgm::Header;
 use record::Blocks;
+use square_pgm::MOST_HELD;
 
 // What the programs hold: the greys of the largest square, the most blocks of its record, and their bytes and payload.
 pub const MOST_GREYS: usize = 4096;
@@ -21,17 +23,20 @@ pub struct Found {
     pub k: u32,
 }
 
-// The greys of a square that the programs hold, k from 3 to 6, else 0.
+// What is wanted of a record: its picture, or a thumbnail of it, with the side halved so often.
+pub enum Wanted {
+    Picture,
+    Thumbnail(u32),
+}
+
+// The greys of a square, up to the largest that the programs hold; 0 beyond.
 pub fn area(k: u32) -> usize
     ensures { λ r. ⌜ r ≡ areaOf k ⌝ }
 {
-    match k {
-        3 => 64,
-        4 => 256,
-        5 => 1024,
-        6 => 4096,
-        _ => 0,
+    if MOST_HELD < k {
+        return 0;
     }
+    sizes::area(k)
 }
 
 // The picture of a PGM of so many bytes. Fault is 0, or 1 no header, 2 greys that do not run to 255, 3 no square with
@@ -135,8 +140,45 @@ pub fn encode(
     )
 }
 
-// The first b bits made a picture.
+// How often the side of what is wanted was halved.
+pub fn halvings(wanted: Wanted) -> u32
+    ensures { λ r. ⌜ r ≡ halvingsOf wanted ⌝ }
+{
+    match wanted {
+        Wanted::Picture => 0,
+        Wanted::Thumbnail(halvings) => halvings,
+    }
+}
+
+// The greys of what is wanted of a picture of side 2 ^ k.
+fn shown_area(wanted: Wanted, k: u32) -> usize
+    ensures { λ r. ⌜ r ≡ areaOf (k - halvingsOf wanted) ⌝ }
+{
+    area(sizes::less(k, halvings(wanted)))
+}
+
+// The numbers made what is wanted.
+fn shown(
+    wanted: Wanted,
+    k: u32,
+    levels: u32,
+    numbers: &[i32],
+    picture: &mut [u8],
+    room: &mut [i32],
+) -> u32
+    ensures { λ r. ⌜ shownJob wanted k levels (now (numbers .entry)) (now (picture .entry)) (now (room .entry)) ≡ record { refusal = r; picture = now (picture .exit); room = now (room .exit) } ⌝ }
+{
+    match wanted {
+        Wanted::Picture => label::inverse(k, levels, numbers, picture, room),
+        Wanted::Thumbnail(halvings) => {
+            label::thumbnail(k, levels, halvings, numbers, picture, room)
+        }
+    }
+}
+
+// The first b bits made what is wanted.
 fn rebuilt(
+    wanted: Wanted,
     k: u32,
     levels: u32,
     n: u32,
@@ -146,13 +188,13 @@ fn rebuilt(
     picture: &mut [u8],
     room: &mut [i32],
 ) -> Settled
-    ensures { λ r. ⌜ rebuildingOf k levels n (now (bytes .entry)) b (now (numbers .entry)) (now (picture .entry)) (now (room .entry)) ≡ record { refusal = r .refusal; unfinished = r .unfinished; read = r .read; numbers = now (numbers .exit); picture = now (picture .exit); room = now (room .exit) } ⌝ }
+    ensures { λ r. ⌜ rebuildingOf wanted k levels n (now (bytes .entry)) b (now (numbers .entry)) (now (picture .entry)) (now (room .entry)) ≡ record { refusal = r .refusal; unfinished = r .unfinished; read = r .read; numbers = now (numbers .exit); picture = now (picture .exit); room = now (room .exit) } ⌝ }
 {
     let settled = label::decode(k, levels, n, numbers, bytes, b);
     if settled.refusal != 0 {
         return settled;
     }
-    let refusal = label::inverse(k, levels, numbers, picture, room);
+    let refusal = shown(wanted, k, levels, numbers, picture, room);
     Settled {
         refusal,
         unfinished: settled.unfinished,
@@ -160,9 +202,10 @@ fn rebuilt(
     }
 }
 
-// The first b bits made a picture of side 2 ^ k, at the front of buffers that may be longer; refusal 3 where one is
-// shorter.
+// The first b bits made what is wanted of a picture of side 2 ^ k, at the front of buffers that may be longer; refusal 3
+// where one is shorter.
 pub fn rebuild(
+    wanted: Wanted,
     k: u32,
     levels: u32,
     n: u32,
@@ -172,8 +215,9 @@ pub fn rebuild(
     picture: &mut [u8],
     room: &mut [i32],
 ) -> Settled
-    ensures { λ r. ⌜ rebuildingIn k levels n (now (bytes .entry)) b (now (numbers .entry)) (now (picture .entry)) (now (room .entry)) ≡ record { refusal = r .refusal; unfinished = r .unfinished; read = r .read; numbers = now (numbers .exit); picture = now (picture .exit); room = now (room .exit) } ⌝ }
+    ensures { λ r. ⌜ rebuildingIn wanted k levels n (now (bytes .entry)) b (now (numbers .entry)) (now (picture .entry)) (now (room .entry)) ≡ record { refusal = r .refusal; unfinished = r .unfinished; read = r .read; numbers = now (numbers .exit); picture = now (picture .exit); room = now (room .exit) } ⌝ }
 {
+    let shown = shown_area(wanted, k);
     let area = area(k);
     if numbers.len() < area {
         return Settled {
@@ -182,14 +226,14 @@ pub fn rebuild(
             read: 0,
         };
     }
-    if picture.len() < area {
+    if picture.len() < shown {
         return Settled {
             refusal: 3,
             unfinished: 0,
             read: 0,
         };
     }
-    if room.len() < area {
+    if room.len() < shown {
         return Settled {
             refusal: 3,
             unfinished: 0,
@@ -197,13 +241,14 @@ pub fn rebuild(
         };
     }
     rebuilt(
+        wanted,
         k,
         levels,
         n,
         bytes,
         b,
         &mut numbers[..area],
-        &mut picture[..area],
-        &mut room[..area],
+        &mut picture[..shown],
+        &mut room[..shown],
     )
 }

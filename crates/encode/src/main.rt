@@ -13,6 +13,9 @@ use libc::STDOUT_FILENO;
 use pgm::Header;
 use pgm::Number;
 
+// What is read of a picture, header and greys, and before it of an argument in digits.
+const INPUT_BYTES: usize = 12288;
+
 // The program's own text, also for a person who used it wrongly.
 fn write_help(fd: i32) {
     pipes::write_all(
@@ -60,7 +63,7 @@ fn sides_line(width: u32, height: u32, line: &mut [u8]) -> usize {
 // Either the greys end too soon, or a header with long comments took their room.
 fn missing_line(header: Header, bytes: usize, line: &mut [u8]) -> usize {
     let start = header.start;
-    if bytes == 12288 {
+    if bytes == INPUT_BYTES {
         return words::put(
             b"REFUSED: the header is too long: with its greys it may take 12288 bytes\n",
             line,
@@ -143,27 +146,10 @@ fn read_and_encode(room: &mut [u8], levels: u32, limit: usize, line: &mut [u8]) 
     encode(&room[..count], &label[..label_count], levels, limit, line)
 }
 
-// An argument in digits, however many they are, read through the room that the picture will have; its `next` is 0 where it is
-// none.
-fn number_argument(i: usize, room: &mut [u8]) -> Number {
-    let count = os::arg(i, room);
-    pgm::whole_number(&room[..count])
-}
-
-// Right behind the argument's reading, which says in errno whether all of it was read.
-fn number_line(name: &[u8], line: &mut [u8]) -> usize {
-    let verdict = words::put(b"REFUSED: ", line, 0);
-    let named = words::put(name, line, verdict);
-    if os::errno() == libc::ENAMETOOLONG {
-        return words::put(b" has more than 12288 characters\n", line, named);
-    }
-    words::put(b" is not written in digits alone\n", line, named)
-}
-
 // The bit limit, which is beyond all bits where it is not given.
-fn limit_argument(arguments: usize, room: &mut [u8]) -> Number {
-    if arguments == 4 {
-        return number_argument(3, room);
+fn limit_argument(given: usize, room: &mut [u8]) -> Number {
+    if given == 4 {
+        return arguments::number(3, room);
     }
     Number {
         value: 999999,
@@ -171,25 +157,17 @@ fn limit_argument(arguments: usize, room: &mut [u8]) -> Number {
     }
 }
 
-fn read_arguments(arguments: usize, line: &mut [u8]) -> usize {
-    let mut room = [0u8; 12288];
-    let levels = number_argument(2, &mut room);
+fn read_arguments(given: usize, line: &mut [u8]) -> usize {
+    let mut room = [0u8; INPUT_BYTES];
+    let levels = arguments::number(2, &mut room);
     if levels.next == 0 {
-        return number_line(b"LEVELS", line);
+        return arguments::number_line(b"LEVELS", INPUT_BYTES, line);
     }
-    let limit = limit_argument(arguments, &mut room);
+    let limit = limit_argument(given, &mut room);
     if limit.next == 0 {
-        return number_line(b"BITS", line);
+        return arguments::number_line(b"BITS", INPUT_BYTES, line);
     }
     read_and_encode(&mut room, levels.value, limit.value as usize, line)
-}
-
-// No label begins with a dash.
-fn is_option(word: &[u8]) -> bool {
-    if word.len() == 0 {
-        return false;
-    }
-    word[0] == b'-'
 }
 
 fn run(line: &mut [u8]) -> usize {
@@ -203,12 +181,12 @@ fn run(line: &mut [u8]) -> usize {
         pipes::write_all(STDOUT_FILENO, b"encode 0.3.0\n");
         return 0;
     }
-    let arguments = os::arg_count();
-    if arguments < 3 || 4 < arguments || is_option(&word[..count]) {
+    let given = os::arg_count();
+    if given < 3 || 4 < given || arguments::is_option(&word[..count]) {
         write_help(STDERR_FILENO);
         return 0;
     }
-    read_arguments(arguments, line)
+    read_arguments(given, line)
 }
 
 fn main() {

@@ -4,6 +4,9 @@ use borrow.Author.Needs.{needs}
 use Rattle.decode.proofs.write_picture.Statement.{statement}
 use Rattle.decode.proofs.write_picture.Tie as tie
 
+less-requires : tie.Need-less-requires
+less-requires c κs = search needs
+
 slice-aggregate-promise : tie.Need-slice-aggregate-promise
 slice-aggregate-promise c = search needs
 
@@ -44,6 +47,7 @@ pub write-picture-spec : {M : Type 1} → statement M
 write-picture-spec =
     tie.close
     (tie.spec
+    less-requires
     slice-aggregate-promise
     promise-requires
     array-share-prefix-promise

@@ -4,17 +4,16 @@ use Rattle.desk.proofs.rebuilt.Statement.{statement}
 use Rattle.desk.proofs.rebuilt.Tie as tie
 
 decode-requires : tie.Need-decode-requires
-decode-requires c κs = tt
+decode-requires c κs = search needs
 
 same-length : tie.Need-same-length
 same-length c = search needs
 
 returns : tie.Need-returns
-returns c =
-    decode-refused _ _ _ _ _ _ _ _ _ (c .before .before .before .decode .ensures) (c .if1 .taken)
+returns c = decode-refused _ _ _ _ _ _ _ _ _ _ (c .before .before .before .decode .ensures) (c .if1 .taken)
 
-inverse-requires : tie.Need-inverse-requires
-inverse-requires c κs = tt
+shown-requires : tie.Need-shown-requires
+shown-requires c κs = search needs
 
 same-length-2 : tie.Need-same-length-2
 same-length-2 c = search needs
@@ -27,7 +26,7 @@ same-length-4 c = search needs
 
 returns-2 : tie.Need-returns-2
 returns-2 c =
-    rebuilt-is _ _ _ _ _ _ _ _ _ (c .before .before .before .before .before .before .before .before .before .before .decode .ensures) _ (c .before .before .before .before .before .before .before .if1 .left) (c .before .before .before .inverse .ensures)
+    rebuilt-is _ _ _ _ _ _ _ _ _ _ (c .before .before .before .before .before .before .before .before .before .before .decode .ensures) _ (c .before .before .before .before .before .before .before .if1 .left) (c .before .before .before .shown .ensures)
 
 pub rebuilt-spec : {M : Type 1} → statement M
 rebuilt-spec =
@@ -36,7 +35,7 @@ rebuilt-spec =
     decode-requires
     same-length
     returns
-    inverse-requires
+    shown-requires
     same-length-2
     same-length-3
     same-length-4
