@@ -162,14 +162,12 @@ fn read_and_decode(wanted: Wanted, room: &mut [u8], label: &[u8], line: &mut [u8
     decode(wanted, room, filled.count, label, line)
 }
 
-fn show_picture(label: &[u8], line: &mut [u8]) -> usize {
+// The picture, or a thumbnail, for which R is argument 2: it is read through the room that the blocks will have.
+fn show(small: bool, label: &[u8], line: &mut [u8]) -> usize {
     let mut room = [0u8; RECORD_BYTES];
-    read_and_decode(Wanted::Picture, &mut room, label, line)
-}
-
-// R is read through the room that the blocks will have.
-fn show_thumbnail(label: &[u8], line: &mut [u8]) -> usize {
-    let mut room = [0u8; RECORD_BYTES];
+    if !small {
+        return read_and_decode(Wanted::Picture, &mut room, label, line);
+    }
     let halvings = arguments::number(2, &mut room);
     if halvings.next == 0 {
         return arguments::number_line(b"R", RECORD_BYTES, line);
@@ -185,28 +183,28 @@ fn run_thumbnail(line: &mut [u8]) -> usize {
         write_help(STDERR_FILENO);
         return 0;
     }
-    show_thumbnail(&label[..count], line)
+    show(true, &label[..count], line)
 }
 
 fn run(line: &mut [u8]) -> usize {
-    let mut word = [0u8; 16];
-    let count = os::arg(1, &mut word);
-    if fields::same_bytes(&word[..count], b"--help") {
+    let mut label = [0u8; 16];
+    let count = os::arg(1, &mut label);
+    if fields::same_bytes(&label[..count], b"--help") {
         write_help(STDOUT_FILENO);
         return 0;
     }
-    if fields::same_bytes(&word[..count], b"--version") {
+    if fields::same_bytes(&label[..count], b"--version") {
         pipes::write_all(STDOUT_FILENO, b"decode 0.3.0\n");
         return 0;
     }
-    if fields::same_bytes(&word[..count], b"--thumbnail") {
+    if fields::same_bytes(&label[..count], b"--thumbnail") {
         return run_thumbnail(line);
     }
-    if os::arg_count() != 2 || arguments::is_option(&word[..count]) {
+    if os::arg_count() != 2 || arguments::is_option(&label[..count]) {
         write_help(STDERR_FILENO);
         return 0;
     }
-    show_picture(&word[..count], line)
+    show(false, &label[..count], line)
 }
 
 fn main() {
