@@ -83,7 +83,7 @@ module _ (k L : ℕ) (label picture : List ℕ) (limit : ℕ) (numbers : List �
       let w = room-written k L (n k L label picture G) label (laid (writtenOf k L T limit bytes) bytes) (length (writtenOf k L T limit bytes)) room (accepted k L T (truth-given k L label picture G) limit bytes label (G .labelled) room fits) in
       (ap (λ (a : Writing). a .refusal) (e ∙ w), ap (λ (a : Writing). a .blocks) (e ∙ w) ∙ ap (λ (l : List Bool). blocksFor (length l)) all-written)
 
-  -- what is seen of the whole record: every number, and what a job makes of them
+  -- the whole record, as it lies in the room: it opens, and every number is settled
   abbrev pub whole : List ℕ
   whole = take (blockBytes * W .blocks) (W .room)
 
