@@ -1,18 +1,23 @@
 //! The label library against the second program where chance is not enough:
 //! every size and level, every cut of small codings, every plane count, every
-//! change of one byte and every exchange of two in a block, every byte in each
-//! place of a label. Stops at the first difference.
+//! thumbnail of each size and of each sample, every change of one byte and
+//! every exchange of two in a block, every byte in each place of a label.
+//! Stops at the first difference.
 
 mod library;
 
 use second::bits;
 use second::block::{self, Block, CHECK_A, CHECK_B, LABEL, LENGTH, PAYLOAD_BITS, PAYLOAD_LENGTH};
+use second::places;
 use second::random::Random;
 use second::record;
 use second::samples;
 use second::show;
-use second::sizes::{most_levels, Sizes, LARGEST_K, MOST_PLANES, SMALLEST_K};
-use second::transcript::{self, Answer, Field, Request};
+use second::sizes::{most_levels, Sizes, LARGEST_K, LARGEST_MAGNITUDE, MOST_PLANES, SMALLEST_K};
+use second::transcript::{self, lent_bytes, lent_numbers, Answer, Field, Request};
+use second::transform;
+use std::fs;
+use std::path::PathBuf;
 use std::process::exit;
 
 /// Makes the calls on both sides and counts them.
@@ -39,6 +44,14 @@ impl Comparison {
                 println!("{field} is {number} by the rule: {}", show::line(request));
                 exit(1);
             }
+        }
+    }
+
+    /// Holds all of the answer to the rule.
+    fn whole_by_rule(&mut self, request: &Request, answer: &Answer) {
+        if self.same(request) != *answer {
+            println!("another answer by the rule: {}", show::line(request));
+            exit(1);
         }
     }
 }
@@ -137,6 +150,212 @@ fn every_plane_count(comparison: &mut Comparison, random: &mut Random, sizes: Si
                 bytes: bytes.clone(),
                 count,
             });
+        }
+    }
+}
+
+/// The calls for thumbnails that were made.
+#[derive(Default)]
+struct Thumbnails {
+    accepted: u64,
+    refused: u64,
+    of_whole_samples: u64,
+    of_cut_samples: u64,
+}
+
+/// What a refused call for a thumbnail answers, and leaves as it was lent.
+fn refused(refusal: u32, [picture, room]: [usize; 2]) -> Answer {
+    vec![
+        ("refusal", Field::Small(refusal)),
+        ("picture", Field::Bytes(lent_bytes(picture))),
+        ("room", Field::Numbers(lent_numbers(room))),
+    ]
+}
+
+/// What a call for a thumbnail answers where its greys, before they are set, are these.
+fn accepted(greys: &[i32], k: u32) -> Answer {
+    let picture = greys.iter().map(|grey| transform::grey(*grey)).collect();
+    let mut room = vec![0; greys.len()];
+    places::into_z_order(greys, k, &mut room);
+    vec![
+        ("refusal", Field::Small(0)),
+        ("picture", Field::Bytes(picture)),
+        ("room", Field::Numbers(room)),
+    ]
+}
+
+/// Thumbnails at one size and r: of numbers of every kind; of a picture's numbers, where it is the picture's low band;
+/// each fault alone, and every choice of faults, which are told in the order 1, 2, 13, 3, 4.
+fn every_thumbnail(
+    comparison: &mut Comparison,
+    random: &mut Random,
+    sizes: Sizes,
+    halvings: u32,
+    thumbnails: &mut Thumbnails,
+) {
+    let (k, levels, places) = (sizes.k(), sizes.levels(), sizes.places());
+    let greys = sizes.halved_places(halvings);
+    let call = |halvings, numbers: &[i32], [picture, room]: [usize; 2]| Request::Thumbnail {
+        k,
+        levels,
+        halvings,
+        numbers: numbers.to_vec(),
+        picture,
+        room,
+    };
+    for _ in 0..if k < 7 { 12 } else { 3 } {
+        let numbers = samples::numbers(random, sizes);
+        comparison.by_rule(&call(halvings, &numbers, [greys; 2]), &[("refusal", 0)]);
+        thumbnails.accepted += 1;
+    }
+
+    let picture = samples::picture(random, sizes);
+    let mut numbers = vec![0; places];
+    label::forward(k, levels, &picture, &mut numbers).expect("the lengths are right");
+    let low_band = accepted(&transform::low_band(sizes, halvings, &picture), k - halvings);
+    comparison.whole_by_rule(&call(halvings, &numbers, [greys; 2]), &low_band);
+    thumbnails.accepted += 1;
+
+    let mut is_refused = |refusal, halvings, numbers: &[i32], lent| {
+        comparison.whole_by_rule(&call(halvings, numbers, lent), &refused(refusal, lent));
+        thumbnails.refused += 1;
+    };
+    // Two of them are right as a shift count and in their low byte.
+    for wrong in [0, levels + 1, k, 32 + halvings, 256 + halvings, u32::MAX] {
+        for lent in [[greys; 2], [places; 2], [0; 2]] {
+            is_refused(13, wrong, &numbers, lent);
+        }
+    }
+    for wrong in [greys, places - 1, places + 1] {
+        let mut numbers = numbers.clone();
+        numbers.resize(wrong, 0);
+        is_refused(3, halvings, &numbers, [greys; 2]);
+    }
+    for wrong in [0, greys / 4, greys - 1, greys + 1, places] {
+        for lent in [[wrong, greys], [greys, wrong], [wrong; 2]] {
+            is_refused(3, halvings, &numbers, lent);
+        }
+    }
+    for (number, refusal) in [
+        (LARGEST_MAGNITUDE, 0),
+        (-LARGEST_MAGNITUDE, 0),
+        (LARGEST_MAGNITUDE + 1, 4),
+        (-LARGEST_MAGNITUDE - 1, 4),
+        (i32::MAX, 4),
+        (i32::MIN, 4),
+    ] {
+        let with = |place: usize| {
+            let mut numbers = numbers.clone();
+            numbers[place] = number;
+            call(halvings, &numbers, [greys; 2])
+        };
+        // The last that counts, and the first behind it, which changes nothing.
+        comparison.by_rule(&with(greys - 1), &[("refusal", refusal)]);
+        comparison.whole_by_rule(&with(greys), &low_band);
+        thumbnails.refused += u64::from(refusal != 0);
+        thumbnails.accepted += 1 + u64::from(refusal == 0);
+    }
+
+    for (faults, short) in (1_u32..32).flat_map(|faults| [0, 1, 2].map(|short| (faults, short))) {
+        let first = [1, 2, 13, 3, 4][faults.trailing_zeros() as usize];
+        let [one, two, thirteen, three, four] = [0, 1, 2, 3, 4].map(|fault| faults >> fault & 1 == 1);
+        let mut lengths = [places, greys, greys];
+        lengths[short] -= usize::from(three);
+        let [all, picture, room] = lengths;
+        let mut numbers = numbers[..all].to_vec();
+        if four {
+            numbers[0] = i32::MIN;
+        }
+        let request = Request::Thumbnail {
+            k: if one { LARGEST_K + 1 } else { k },
+            levels: if two { most_levels(k) + 1 } else { levels },
+            halvings: if thirteen { 0 } else { halvings },
+            numbers,
+            picture,
+            room,
+        };
+        comparison.whole_by_rule(&request, &refused(first, [picture, room]));
+        thumbnails.refused += 1;
+    }
+}
+
+/// The names of all samples.
+fn all_samples() -> Vec<PathBuf> {
+    let entries = fs::read_dir("samples").expect("there are samples");
+    let mut paths: Vec<PathBuf> = entries.map(|entry| entry.expect("it has a name").path()).collect();
+    paths.retain(|path| path.extension().is_some_and(|extension| extension == "pgm"));
+    paths.sort();
+    assert!(!paths.is_empty(), "there are no samples");
+    paths
+}
+
+/// A sample's greys and its k: a PGM with a header of three lines.
+fn sample(path: &PathBuf) -> (u32, Vec<u8>) {
+    let pgm = fs::read(path).expect("a sample can be read");
+    let greys = |k: u32| pgm.strip_prefix(format!("P5\n{0} {0}\n255\n", 1 << k).as_bytes());
+    let mut sides = (SMALLEST_K..=LARGEST_K).filter_map(|k| Some((k, greys(k)?.to_vec())));
+    sides.next().expect("a sample has a side")
+}
+
+/// The library's record of a picture.
+fn record_of(sizes: Sizes, picture: &[u8]) -> Vec<u8> {
+    let (k, levels) = (sizes.k(), sizes.levels());
+    let mut numbers = vec![0; sizes.places()];
+    let n = label::forward(k, levels, picture, &mut numbers).expect("the lengths are right");
+    let mut bytes = vec![0; label::most_bytes(k, n)];
+    let coded = label::code(k, levels, &numbers, usize::MAX, &mut bytes).expect("they are a picture's numbers");
+    let mut record = vec![0; label::blocks(coded.bits) * LENGTH];
+    label::write(k, levels, n, b"0417AAL6", &bytes, coded.bits, &mut record).expect("there is room for its blocks");
+    record
+}
+
+/// The numbers that the library settles by these blocks, and the planes that are not finished.
+fn settled(sizes: Sizes, blocks: &[u8]) -> (Vec<i32>, u32) {
+    let mut payload = vec![0; blocks.len() / LENGTH * PAYLOAD_LENGTH];
+    let kept = label::read(blocks, b"0417AAL6", &mut payload).expect("the blocks are sound");
+    let mut numbers = vec![1; sizes.places()];
+    let settled = label::decode(kept.k, kept.levels, kept.n, &mut numbers, &payload, kept.bits);
+    (numbers, settled.expect("the bits are a coding's").unfinished)
+}
+
+/// Whether the library's thumbnail of these numbers, set and before it is set, is within a limit of the low band that
+/// the second program has from the original.
+fn is_near(sizes: Sizes, halvings: u32, numbers: &[i32], original: &[u8], limit: u32) -> bool {
+    let low_band = transform::low_band(sizes, halvings, original);
+    let (mut picture, mut room) = (vec![1; low_band.len()], vec![1; low_band.len()]);
+    label::thumbnail(sizes.k(), sizes.levels(), halvings, numbers, &mut picture, &mut room).expect("all is right");
+    let room = places::from_z_order(&room, sizes.k() - halvings);
+    let mut greys = low_band.iter().zip(picture.iter().zip(&room));
+    greys.all(|(low, (set, unset))| {
+        u32::from(set.abs_diff(transform::grey(*low))) <= limit && unset.abs_diff(*low) <= limit
+    })
+}
+
+/// Every sample at every level and r, whole and cut after each block: of a whole record the thumbnail is the low band
+/// of the original, of a cut one it is within its limit of that.
+fn every_sample(thumbnails: &mut Thumbnails) {
+    for path in all_samples() {
+        let (k, original) = sample(&path);
+        for sizes in all_sizes().filter(|sizes| sizes.k() == k) {
+            let levels = sizes.levels();
+            let record = record_of(sizes, &original);
+            for blocks in 1..=record.len() / LENGTH {
+                let is_whole = blocks * LENGTH == record.len();
+                let (numbers, unfinished) = settled(sizes, &record[..blocks * LENGTH]);
+                for halvings in 1..=levels {
+                    let limit = (7 * (levels - halvings) + 1) * ((1 << unfinished) - 1);
+                    let limit = if is_whole { 0 } else { limit };
+                    if !is_near(sizes, halvings, &numbers, &original, limit) {
+                        let name = path.display();
+                        println!("{name}, L {levels}, r {halvings}, {blocks} blocks: beyond {limit} of the low band");
+                        exit(1);
+                    }
+                    match is_whole {
+                        true => thumbnails.of_whole_samples += 1,
+                        false => thumbnails.of_cut_samples += 1,
+                    }
+                }
+            }
         }
     }
 }
@@ -382,6 +601,7 @@ fn where_a_run_ends(comparison: &mut Comparison, random: &mut Random) -> u64 {
 fn main() {
     let mut comparison = Comparison { cases: 0 };
     let mut random = Random::new(417, 0);
+    let mut thumbnails = Thumbnails::default();
     for sizes in all_sizes() {
         every_size(&mut comparison, &mut random, sizes, if sizes.k() < 7 { 24 } else { 6 });
         if sizes.k() < 5 {
@@ -390,7 +610,11 @@ fn main() {
         if sizes.k() < 7 {
             every_plane_count(&mut comparison, &mut random, sizes);
         }
+        for halvings in 1..=sizes.levels() {
+            every_thumbnail(&mut comparison, &mut random, sizes, halvings, &mut thumbnails);
+        }
     }
+    every_sample(&mut thumbnails);
     every_byte(&mut comparison, &mut random);
     every_character(&mut comparison, &mut random);
     let caught = what_the_check_catches(&mut comparison, &mut random);
@@ -401,4 +625,12 @@ fn main() {
         caught.changes, caught.exchanges, caught.pairs
     );
     println!("{damaged} records with one block so damaged: each kept up to that block and no further, by 8");
+    println!(
+        "{} thumbnails at every size, level and r, and {} refused: by the first of 1, 2, 13, 3 and 4",
+        thumbnails.accepted, thumbnails.refused
+    );
+    println!(
+        "{} thumbnails of samples: each the original's low band; {} of cut ones: each grey within its limit of that",
+        thumbnails.of_whole_samples, thumbnails.of_cut_samples
+    );
 }

@@ -121,5 +121,22 @@ pub fn answer(request: &Request) -> Answer {
             ]
         }
         Request::BlockCheck { block } => vec![("refusal", small(raw::check(block)))],
+        Request::Thumbnail {
+            k,
+            levels,
+            halvings,
+            numbers,
+            picture,
+            room,
+        } => {
+            let mut picture = transcript::lent_bytes(*picture);
+            let mut room = transcript::lent_numbers(*room);
+            let refusal = raw::thumbnail(*k, *levels, *halvings, numbers, &mut picture, &mut room);
+            vec![
+                ("refusal", small(refusal)),
+                ("picture", Field::Bytes(picture)),
+                ("room", Field::Numbers(room)),
+            ]
+        }
     }
 }

@@ -1,4 +1,4 @@
-//! Random requests for all seven jobs, good and bad, each of them determined
+//! Random requests for all eight jobs, good and bad, each of them determined
 //! by the seed, its number and the options alone.
 
 use crate::bits;
@@ -11,7 +11,7 @@ use crate::sizes::{self, Sizes, LARGEST_MAGNITUDE, MOST_PLANES};
 use crate::transcript::{Request, MOST_BYTES, MOST_NUMBERS};
 
 pub struct Options {
-    /// The jobs to make requests for, by their numbers 1 to 7.
+    /// The jobs to make requests for, by their numbers 1 to 8.
     pub jobs: Vec<u8>,
     /// The largest k of a good request, 3 to 8.
     pub largest: u32,
@@ -27,7 +27,8 @@ pub fn case(seed: u64, number: u64, options: &Options) -> Request {
         4 => inverse(random, largest),
         5 => record_writing(random, largest),
         6 => record_reading(random, largest),
-        _ => block_check(random, largest),
+        7 => block_check(random, largest),
+        _ => thumbnail(random, largest),
     }
 }
 
@@ -377,4 +378,55 @@ fn block_check(random: &mut Random, largest: u32) -> Request {
         block.resize(random.pick(&[length, 2 * LENGTH]), 0);
     }
     Request::BlockCheck { block }
+}
+
+/// An r out of its range, most often next to it; some are right in their low
+/// byte, or as a shift count.
+fn wrong_halvings(random: &mut Random, sizes: Sizes) -> u32 {
+    let over = sizes.levels() + 1;
+    let low_byte = 256 + sizes.levels();
+    let far = random.pick(&[sizes.k() + 1, 6, 32, 33, low_byte, 1 << 31, u32::MAX]);
+    random.pick(&[0, over, far.max(over)])
+}
+
+/// The length of a picture or a room that is no thumbnail's: S², as the inverse
+/// wants it, or another wrong one.
+fn wrong_greys(random: &mut Random, sizes: Sizes, right: usize) -> usize {
+    if random.one_in(3) {
+        sizes.places()
+    } else {
+        wrong_length(random, right, MOST_NUMBERS)
+    }
+}
+
+fn thumbnail(random: &mut Random, largest: u32) -> Request {
+    let mut sent = Sent::new(random, largest);
+    let sizes = sent.sizes;
+    let mut halvings = 1 + random.below(sizes.levels().into()) as u32;
+    let mut numbers = samples::numbers(random, sizes);
+    let greys = sizes.halved_places(halvings);
+    let (mut picture, mut room) = (greys, greys);
+    for _ in 0..spoils(random) {
+        let first = greys.min(numbers.len());
+        match random.below(9) {
+            0 => sent.spoil(random),
+            1 => halvings = wrong_halvings(random, sizes),
+            2 => spoil_list(random, &mut numbers),
+            3 => numbers.truncate(greys),
+            4 => picture = wrong_greys(random, sizes, greys),
+            5 => room = wrong_greys(random, sizes, greys),
+            6 => (picture, room) = (sizes.places(), sizes.places()),
+            7 => spoil_number(random, &mut numbers[..first]),
+            // Beyond the limits behind the first (S/2^r)², where 4 does not look.
+            _ => spoil_number(random, &mut numbers[first..]),
+        }
+    }
+    Request::Thumbnail {
+        k: sent.k,
+        levels: sent.levels,
+        halvings,
+        numbers,
+        picture,
+        room,
+    }
 }

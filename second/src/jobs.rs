@@ -1,5 +1,6 @@
-//! The seven jobs: each makes the checks it has inputs for, lowest refusal
-//! number first, and touches lent memory only when none of them refuses.
+//! The eight jobs: each makes the checks it has inputs for, lowest refusal
+//! number first (but 13 before 3), and touches lent memory only when none of
+//! them refuses.
 
 use crate::bits;
 use crate::block;
@@ -81,6 +82,27 @@ pub fn inverse(
     }
     sizes::check_magnitudes(numbers)?;
     transform::inverse(sizes, numbers, picture, room);
+    Ok(())
+}
+
+/// Fills the picture of side S/2^r from the first (S/2^r)² numbers alone, and
+/// the room with its greys before they are set into 0 to 255.
+pub fn thumbnail(
+    k: u32,
+    levels: u32,
+    halvings: u32,
+    numbers: &[i32],
+    picture: &mut [u8],
+    room: &mut [i32],
+) -> Result<(), Refusal> {
+    let sizes = Sizes::new(k, levels)?;
+    sizes.check_halvings(halvings)?;
+    sizes.check_length(numbers.len())?;
+    let places = sizes.halved_places(halvings);
+    Refusal::Length.when(picture.len() != places || room.len() != places)?;
+    let first = &numbers[..places];
+    sizes::check_magnitudes(first)?;
+    transform::thumbnail(sizes, halvings, first, picture, room);
     Ok(())
 }
 

@@ -1,6 +1,6 @@
-//! The refusal numbers of the paper's table.
+//! The refusal numbers: those of the paper's table, and what requests add.
 
-/// Why a call is refused; each case stands for its number in the table.
+/// Why a call is refused; each case stands for its number.
 #[derive(Clone, Copy, Debug, PartialEq, Eq)]
 pub enum Refusal {
     Side = 1,
@@ -13,6 +13,7 @@ pub enum Refusal {
     Check = 8,
     Field = 9,
     Turn = 10,
+    Halvings = 13,
 }
 
 impl Refusal {

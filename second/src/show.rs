@@ -6,10 +6,22 @@ use crate::jobs;
 use crate::sizes::{self, Sizes};
 use crate::transcript::{self, Field, Request};
 
+/// S², if k and L are in their ranges.
+fn places(k: u32, levels: u32) -> Option<usize> {
+    Sizes::new(k, levels).ok().map(Sizes::places)
+}
+
+/// (S/2^r)², if r is in its range too.
+fn halved(k: u32, levels: u32, halvings: u32) -> Option<usize> {
+    let sizes = Sizes::new(k, levels).ok()?;
+    sizes.check_halvings(halvings).ok()?;
+    Some(sizes.halved_places(halvings))
+}
+
 /// A slice's length, with the right one where it is another.
-fn length(name: &str, length: usize, sizes: Option<Sizes>) -> String {
-    match sizes.map(Sizes::places) {
-        Some(places) if places != length => format!("{} {} (not {})", name, length, places),
+fn length(name: &str, length: usize, right: Option<usize>) -> String {
+    match right {
+        Some(right) if right != length => format!("{} {} (not {})", name, length, right),
         _ => format!("{} {}", name, length),
     }
 }
@@ -79,14 +91,14 @@ fn given(request: &Request) -> String {
             picture,
             numbers,
         } => {
-            let sizes = Sizes::new(*k, *levels).ok();
+            let places = places(*k, *levels);
             format!(
                 "forward k {} L {}, {}, {}, {}",
                 k,
                 levels,
-                length("picture", picture.len(), sizes),
+                length("picture", picture.len(), places),
                 greys(picture),
-                length("numbers", *numbers, sizes)
+                length("numbers", *numbers, places)
             )
         }
         Request::Coding {
@@ -96,12 +108,12 @@ fn given(request: &Request) -> String {
             limit,
             bytes,
         } => {
-            let sizes = Sizes::new(*k, *levels).ok();
+            let places = places(*k, *levels);
             format!(
                 "coding k {} L {}, {}, {}, limit {}, bytes {}",
                 k,
                 levels,
-                length("numbers", numbers.len(), sizes),
+                length("numbers", numbers.len(), places),
                 magnitudes(numbers),
                 limit,
                 bytes
@@ -115,13 +127,13 @@ fn given(request: &Request) -> String {
             bytes,
             count,
         } => {
-            let sizes = Sizes::new(*k, *levels).ok();
+            let places = places(*k, *levels);
             format!(
                 "decoding k {} L {} n {}, {}, b {} of bytes {}",
                 k,
                 levels,
                 planes,
-                length("numbers", *numbers, sizes),
+                length("numbers", *numbers, places),
                 count,
                 bytes.len()
             )
@@ -133,15 +145,15 @@ fn given(request: &Request) -> String {
             picture,
             room,
         } => {
-            let sizes = Sizes::new(*k, *levels).ok();
+            let places = places(*k, *levels);
             format!(
                 "inverse k {} L {}, {}, {}, {}, {}",
                 k,
                 levels,
-                length("numbers", numbers.len(), sizes),
+                length("numbers", numbers.len(), places),
                 magnitudes(numbers),
-                length("picture", *picture, sizes),
-                length("room", *room, sizes)
+                length("picture", *picture, places),
+                length("room", *room, places)
             )
         }
         Request::RecordWriting {
@@ -176,6 +188,26 @@ fn given(request: &Request) -> String {
             format!("block check, {}", block_text(block))
         }
         Request::BlockCheck { block } => format!("block check, {} bytes", block.len()),
+        Request::Thumbnail {
+            k,
+            levels,
+            halvings,
+            numbers,
+            picture,
+            room,
+        } => {
+            let greys = halved(*k, *levels, *halvings);
+            format!(
+                "thumbnail k {} L {} r {}, {}, {}, {}, {}",
+                k,
+                levels,
+                halvings,
+                length("numbers", numbers.len(), places(*k, *levels)),
+                magnitudes(numbers),
+                length("picture", *picture, greys),
+                length("room", *room, greys)
+            )
+        }
     }
 }
 

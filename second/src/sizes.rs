@@ -41,10 +41,16 @@ impl Sizes {
         self.side() * self.side()
     }
 
+    /// (S / 2^r)², the numbers of the low band of r levels, for an r in its
+    /// range.
+    pub fn halved_places(self, halvings: u32) -> usize {
+        let side = self.side() >> halvings;
+        side * side
+    }
+
     /// (S / 2^L)², the length of the set that every plane begins with.
     pub fn first_set(self) -> usize {
-        let band = self.side() >> self.levels;
-        band * band
+        self.halved_places(self.levels)
     }
 
     /// n(4S² - 1)/3 + S², the most bits that a coding of n planes can have.
@@ -56,6 +62,10 @@ impl Sizes {
 
     pub fn check_length(self, length: usize) -> Result<(), Refusal> {
         Refusal::Length.when(length != self.places())
+    }
+
+    pub fn check_halvings(self, halvings: u32) -> Result<(), Refusal> {
+        Refusal::Halvings.when(!(1..=self.levels).contains(&halvings))
     }
 }
 

@@ -60,6 +60,14 @@ pub enum Request {
     BlockCheck {
         block: Vec<u8>,
     },
+    Thumbnail {
+        k: u32,
+        levels: u32,
+        halvings: u32,
+        numbers: Vec<i32>,
+        picture: usize,
+        room: usize,
+    },
 }
 
 /// One value of an answer.
@@ -210,6 +218,30 @@ pub fn answer(request: &Request) -> Answer {
             let (refusal, ()) = outcome(jobs::block_check(block));
             vec![("refusal", refusal)]
         }
+        Request::Thumbnail {
+            k,
+            levels,
+            halvings,
+            numbers,
+            picture,
+            room,
+        } => {
+            let mut picture = lent_bytes(*picture);
+            let mut room = lent_numbers(*room);
+            let (refusal, ()) = outcome(jobs::thumbnail(
+                *k,
+                *levels,
+                *halvings,
+                numbers,
+                &mut picture,
+                &mut room,
+            ));
+            vec![
+                ("refusal", refusal),
+                ("picture", Field::Bytes(picture)),
+                ("room", Field::Numbers(room)),
+            ]
+        }
     }
 }
 
@@ -219,7 +251,9 @@ pub fn answer_length(request: &Request) -> usize {
         Request::Forward { numbers, .. } => 8 + 4 * numbers,
         Request::Coding { bytes, .. } => 16 + bytes,
         Request::Decoding { numbers, .. } => 16 + 4 * numbers,
-        Request::Inverse { picture, room, .. } => 4 + picture + 4 * room,
+        Request::Inverse { picture, room, .. } | Request::Thumbnail { picture, room, .. } => {
+            4 + picture + 4 * room
+        }
         Request::RecordWriting { room, .. } => 8 + room,
         Request::RecordReading { room, .. } => 32 + room,
         Request::BlockCheck { .. } => 4,
@@ -357,6 +391,20 @@ pub fn write_request(request: &Request, output: &mut impl Write) -> io::Result<(
             .list_of_bytes(label)
             .length(*room),
         Request::BlockCheck { block } => Output::job(7).list_of_bytes(block),
+        Request::Thumbnail {
+            k,
+            levels,
+            halvings,
+            numbers,
+            picture,
+            room,
+        } => Output::job(8)
+            .small(*k)
+            .small(*levels)
+            .small(*halvings)
+            .list_of_numbers(numbers)
+            .length(*picture)
+            .length(*room),
     };
     output.write_all(&written.0)
 }
@@ -476,6 +524,14 @@ pub fn read_request(input: &mut impl Read) -> io::Result<Option<Request>> {
         },
         7 => Request::BlockCheck {
             block: input.list_of_bytes(MOST_BYTES)?,
+        },
+        8 => Request::Thumbnail {
+            k: input.small()?,
+            levels: input.small()?,
+            halvings: input.small()?,
+            numbers: input.list_of_numbers()?,
+            picture: input.length(MOST_NUMBERS)?,
+            room: input.length(MOST_NUMBERS)?,
         },
         other => return Err(malformed(format!("no job has the number {}", other))),
     };

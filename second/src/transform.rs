@@ -73,32 +73,70 @@ fn each_line(
     }
 }
 
-/// Fills the wavelet numbers, in Z order, from the greys of a picture.
-pub fn forward(sizes: Sizes, picture: &[u8], numbers: &mut [i32]) {
+/// A picture of this side, 128 less, after so many levels, in raster order.
+fn transformed(side: usize, levels: u32, picture: &[u8]) -> Vec<i32> {
     let greys = picture.iter().map(|grey| i32::from(*grey) - MIDDLE_GREY);
     let mut values: Vec<i32> = greys.collect();
-    for level in 0..sizes.levels() {
-        let m = sizes.side() >> level;
-        each_line(&mut values, sizes.side(), m, Lines::Rows, forward_line);
-        each_line(&mut values, sizes.side(), m, Lines::Columns, forward_line);
+    for level in 0..levels {
+        let m = side >> level;
+        each_line(&mut values, side, m, Lines::Rows, forward_line);
+        each_line(&mut values, side, m, Lines::Columns, forward_line);
     }
+    values
+}
+
+/// Fills the wavelet numbers, in Z order, from the greys of a picture.
+pub fn forward(sizes: Sizes, picture: &[u8], numbers: &mut [i32]) {
+    let values = transformed(sizes.side(), sizes.levels(), picture);
     places::into_z_order(&values, sizes.k(), numbers);
 }
 
-/// Fills the picture from the wavelet numbers, and the room with the greys, in
-/// Z order, as they are before they are set into 0 to 255.
-pub fn inverse(sizes: Sizes, numbers: &[i32], picture: &mut [u8], room: &mut [i32]) {
-    let mut values = places::from_z_order(numbers, sizes.k());
-    for level in (0..sizes.levels()).rev() {
-        let m = sizes.side() >> level;
-        each_line(&mut values, sizes.side(), m, Lines::Columns, inverse_line);
-        each_line(&mut values, sizes.side(), m, Lines::Rows, inverse_line);
+/// A value as a grey: set into 0 to 255.
+pub fn grey(value: i32) -> u8 {
+    value.clamp(0, 255) as u8
+}
+
+/// Undoes so many levels of a square of side 2^k whose numbers are in Z order:
+/// fills the picture, and the room with the greys, in Z order, as they are
+/// before they are set into 0 to 255.
+fn undo(k: u32, levels: u32, numbers: &[i32], picture: &mut [u8], room: &mut [i32]) {
+    let side = 1 << k;
+    let mut values = places::from_z_order(numbers, k);
+    for level in (0..levels).rev() {
+        let m = side >> level;
+        each_line(&mut values, side, m, Lines::Columns, inverse_line);
+        each_line(&mut values, side, m, Lines::Rows, inverse_line);
     }
-    for (value, grey) in values.iter_mut().zip(picture) {
+    for (value, shown) in values.iter_mut().zip(picture) {
         *value += MIDDLE_GREY;
-        *grey = (*value).clamp(0, 255) as u8;
+        *shown = grey(*value);
     }
-    places::into_z_order(&values, sizes.k(), room);
+    places::into_z_order(&values, k, room);
+}
+
+/// Fills the picture and the room from the wavelet numbers.
+pub fn inverse(sizes: Sizes, numbers: &[i32], picture: &mut [u8], room: &mut [i32]) {
+    undo(sizes.k(), sizes.levels(), numbers, picture, room);
+}
+
+/// Fills a picture of side S/2^r and its room from the first (S/2^r)² numbers,
+/// which in Z order are the upper left square of that side, with the other
+/// L - r levels in it.
+pub fn thumbnail(sizes: Sizes, halvings: u32, first: &[i32], picture: &mut [u8], room: &mut [i32]) {
+    let (k, levels) = (sizes.k() - halvings, sizes.levels() - halvings);
+    undo(k, levels, first, picture, room);
+}
+
+/// What a thumbnail of a whole record is held to, from the picture and not from
+/// its numbers: the low band of r levels, plus 128, in raster order, before it
+/// is set into 0 to 255.
+pub fn low_band(sizes: Sizes, halvings: u32, picture: &[u8]) -> Vec<i32> {
+    let side = sizes.side();
+    let values = transformed(side, halvings, picture);
+    let rows = values.chunks_exact(side).take(side >> halvings);
+    rows.flat_map(|row| &row[..side >> halvings])
+        .map(|value| value + MIDDLE_GREY)
+        .collect()
 }
 
 #[cfg(test)]

@@ -1,20 +1,20 @@
 -- Demand 1. Every call is refused by the lowest row of the table that applies (a thumbnail by the first that is judged, since 13 is
 -- judged before 3), and by 0 exactly where none does; a refused call answers 0 for all else and changes nothing lent. (That every call ends is what the checker proves of every function.)
-use mathlib.Core.Path.{_≡_, refl, sym, ap, _∙_, subst}
-use mathlib.Core.Bool.{Bool, true, false, not, _&&_}
-use mathlib.Core.List.{List, [], _∷_}
-use Prim.Native.Nat.{ℕ, zero, suc, _+_, _*_, _-_, _/_, _^_, _<_, _≤_, min}
+use mathlib.Core.Path.{_≡_, refl, ap}
+use mathlib.Core.Bool.{Bool, true, false, _&&_}
+use mathlib.Core.List.{List}
+use Prim.Native.Nat.{ℕ, _*_, _-_}
 use native.Mathlib.Omega.{arith}
 use lib.Dec.{leb, eqb}
 use lib.IntN.{ℤ}
-use lib.ListN.{length, take, drop, length-take, length-drop}
+use lib.ListN.{length}
 use borrow.Author.Tests.{leb-true, eq-eqb}
-use Rattle.paper.specs.Sizes.{sizeIn, levelsIn, planesIn, numbersIn, mostBits, unless, judged}
+use Rattle.paper.specs.Sizes.{unless}
 use Rattle.paper.specs.Block.{blockBytes, isLabel, payloadBytes, payloadStart, checksRight, fieldsRight, blockRefusal}
-use Rattle.paper.specs.Record.{blocksFor, wholeBlocks, blockAt, said, inTurn, turnRefusal}
-use Rattle.paper.specs.Jobs.{sizesRefusal, isSquare, Forward, forwardRefusal, forwardJob, Coding, codingRefusal, codingJob, Decoding, decodingRefusal, decodingJob, Inverse, inverseRefusal, inverseJob, thumbnailRefusal, thumbnailJob, Writing, writingRefusal, writingJob, Read, readingRefusal, readingJob, checkJob}
+use Rattle.paper.specs.Record.{wholeBlocks, blockAt, said, inTurn, turnRefusal}
+use Rattle.paper.specs.Jobs.{sizesRefusal, Forward, forwardRefusal, forwardJob, Coding, codingRefusal, codingJob, Decoding, decodingRefusal, decodingJob, Inverse, inverseRefusal, inverseJob, thumbnailRefusal, thumbnailJob, Writing, writingRefusal, writingJob, Read, readingRefusal, readingJob, checkJob}
 use Rattle.record_laws.specs.Ended.{whole-block}
-use Rattle.label.specs.Table.{Row, row, Lowest, First, leavesSomething, Refuses, forwardRows, codingRows, decodingRows, inverseRows, thumbnailRows, writingRows, readingRows, checkRows}
+use Rattle.label.specs.Table.{Lowest, First, leavesSomething, Refuses, forwardRows, codingRows, decodingRows, inverseRows, thumbnailRows, writingRows, readingRows, checkRows}
 use Rattle.label.proofs.Rows.{first, lowest, first-applies, judged-refuses}
 
 -- No refusal leaves anything behind.

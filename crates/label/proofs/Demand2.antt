@@ -1,10 +1,10 @@
 -- Demand 2. A whole record gives back the very picture. Any bits at all, cut anywhere, decode to exactly what the walk has
 -- settled, zero for the rest, all of them written, with the true count of unfinished planes. A thumbnail of a whole record is the low
 -- band of the very picture.
-use mathlib.Core.Path.{_≡_, refl, sym, ap, _∙_, subst}
-use mathlib.Core.Bool.{Bool, true, false}
+use mathlib.Core.Path.{_≡_, ap, _∙_}
+use mathlib.Core.Bool.{Bool, true}
 use mathlib.Core.List.{List, _++_}
-use Prim.Native.Nat.{ℕ, suc, _+_, _*_, _-_, _/_, _^_, _<_, _≤_, min}
+use Prim.Native.Nat.{ℕ, _+_, _*_, _-_, _/_, _^_, _≤_}
 use native.Mathlib.Omega.{arith}
 use lib.IntN.{ℤ}
 use lib.ListN.{length, take}
@@ -12,11 +12,11 @@ use lib.Seq.{length-take-le}
 use borrow.Author.Tests.{eq-eqb, le-leb}
 use Rattle.paper.specs.Sizes.{sizeIn, levelsIn, halvingsIn, planesIn}
 use Rattle.paper.specs.Square.{greysOf, pictured, lowGreysOf, thumbnailOf}
-use Rattle.paper.specs.Walk.{codeOf, decodeOf, Settled}
+use Rattle.paper.specs.Walk.{decodeOf, Settled}
 use Rattle.paper.specs.Bits.{bits, laid}
 use Rattle.paper.specs.Block.{blockBytes, payloadStart, payloadBytes}
 use Rattle.paper.specs.Record.{blocksFor}
-use Rattle.paper.specs.Jobs.{Decoding, decodingRefusal, settledJob, decodingJob, Writing, writingJob, writtenOf, Read, Inverse}
+use Rattle.paper.specs.Jobs.{Decoding, decodingRefusal, settledJob, decodingJob, Writing, writtenOf, Inverse}
 use Rattle.sizes.proofs.Ranges.{levels-less}
 use Rattle.sizes.proofs.Refusals.{sizes-passed, done-is}
 use Rattle.bits.proofs.OneBit.{bits-length}
@@ -26,9 +26,9 @@ use Rattle.thumbnail.proofs.Refusals.{halvings-few}
 use Rattle.walk_laws.specs.Decoded.{all-bits}
 use Rattle.walk_laws.specs.Unfinished.{AllRead, planesRead, unfinished-true}
 use Rattle.record_laws.specs.BothJobs.{room-written}
-use Rattle.record_laws.specs.ReadBack.{bitsIn, every-bit, readBack}
+use Rattle.record_laws.specs.ReadBack.{bitsIn}
 use Rattle.label.specs.Journey.{intoRecord, Seen, outOfRecord, thumbnailOutOfRecord}
-use Rattle.label.proofs.Way.{Numbers, written-all, accepted}
+use Rattle.label.proofs.Way.{written-all, accepted}
 use Rattle.label.proofs.Journeys.{Given, truth, n, code, truth-given, into-is, Opens, settled, rebuiltAs, out-is, thumbnail-out-is}
 
 -- ---- any bits at all
@@ -83,7 +83,7 @@ module _ (k L : ℕ) (label picture : List ℕ) (limit : ℕ) (numbers : List �
       let w = room-written k L (n k L label picture G) label (laid (writtenOf k L T limit bytes) bytes) (length (writtenOf k L T limit bytes)) room (accepted k L T (truth-given k L label picture G) limit bytes label (G .labelled) room fits) in
       (ap (λ (a : Writing). a .refusal) (e ∙ w), ap (λ (a : Writing). a .blocks) (e ∙ w) ∙ ap (λ (l : List Bool). blocksFor (length l)) all-written)
 
-  -- what is seen of the whole record: every number, and what a job makes of them
+  -- the whole record, as it lies in the room: it opens, and every number is settled
   abbrev pub whole : List ℕ
   whole = take (blockBytes * W .blocks) (W .room)
 

@@ -1,10 +1,9 @@
 -- Demand 3. Of a picture coded by the walk keep any first part of its bits, in a stream or in the blocks of a cut record: the
 -- wavelet numbers keep three promises, more bits never move a number away from the truth, and after L levels no grey in the
 -- rebuilt picture is off by more than (7 L + 1) times 2 ^ p - 1, p the unfinished planes.
-use mathlib.Core.Path.{_≡_, refl, sym, ap, _∙_, subst}
-use mathlib.Core.Bool.{Bool, true, false}
+use mathlib.Core.Path.{_≡_, ap}
 use mathlib.Core.List.{List}
-use Prim.Native.Nat.{ℕ, zero, suc, _+_, _*_, _-_, _/_, _^_, _<_, _≤_, min}
+use Prim.Native.Nat.{ℕ, zero, suc, _+_, _*_, _-_, _/_, _^_, _<_, _≤_}
 use native.Mathlib.Omega.{arith}
 use lib.IntN.{ℤ, pos, negsuc, natAbs, _-ℤ_}
 use lib.ListN.{length, take, getD}
@@ -12,16 +11,16 @@ use Rattle.paper.specs.Sizes.{greyLimit}
 use Rattle.paper.specs.Lists.{at}
 use Rattle.paper.specs.Places.{zOf}
 use Rattle.paper.specs.Square.{grey, greysOf, pictured}
-use Rattle.paper.specs.Walk.{negative, decodeOf, Settled}
-use Rattle.paper.specs.Block.{blockBytes, payloadStart, payloadBytes}
+use Rattle.paper.specs.Walk.{Settled}
+use Rattle.paper.specs.Block.{blockBytes}
 use Rattle.paper.specs.Record.{blocksFor}
-use Rattle.paper.specs.Jobs.{Decoding, Inverse, Read, writtenOf}
+use Rattle.paper.specs.Jobs.{writtenOf}
 use Rattle.sizes.proofs.Ranges.{levels-less}
 use Rattle.list_laws.specs.Made.{getD-made}
 use Rattle.integer_laws.specs.Difference.{pos-⊖, negsuc-⊖}
 use Rattle.lift.specs.Off.{Over, Off}
 use Rattle.lift.proofs.Near.{overs}
-use Rattle.square_laws.specs.Picture.{lossless, greys-near, picture-near}
+use Rattle.square_laws.specs.Picture.{lossless, picture-near}
 use Rattle.walk_laws.specs.Decoded.{Truthful, decodedFirst, decoded-truthful, decoded-never-worse}
 use Rattle.walk_laws.specs.Read.{decoded-length}
 use Rattle.record_laws.specs.ReadBack.{bitsIn}

@@ -1,22 +1,21 @@
 -- What a picture's journey comes to, whatever was lent on the way: the record of its first bits, and from any first part of
 -- that record with a whole block, what the bits in it settle.
-use mathlib.Core.Path.{_≡_, refl, sym, ap, _∙_, subst}
-use mathlib.Core.Bool.{Bool, true, false, _&&_}
+use mathlib.Core.Path.{_≡_, ap, _∙_}
+use mathlib.Core.Bool.{Bool, true}
 use mathlib.Core.List.{List}
-use Prim.Native.Nat.{ℕ, suc, _+_, _*_, _-_, _/_, _^_, _<_, _≤_, min}
+use Prim.Native.Nat.{ℕ, _*_, _-_, _/_, _^_, _≤_}
 use native.Mathlib.Omega.{arith}
-use lib.Dec.{eqb}
 use lib.IntN.{ℤ}
 use lib.ListN.{length, take}
 use borrow.Author.Tests.{eq-eqb}
-use Rattle.paper.specs.Sizes.{sizeIn, levelsIn, halvingsIn, numbersIn, mostPlanes}
+use Rattle.paper.specs.Sizes.{sizeIn, levelsIn, halvingsIn}
 use Rattle.paper.specs.Lists.{Bytes}
 use Rattle.paper.specs.Square.{numbersOf, greysOf, pictured, thumbnailOf}
 use Rattle.paper.specs.Walk.{planeCount, codeOf, decodeOf, Settled}
 use Rattle.paper.specs.Bits.{laid}
 use Rattle.paper.specs.Block.{blockBytes, payloadStart, payloadBytes, isLabel}
 use Rattle.paper.specs.Record.{blocksFor}
-use Rattle.paper.specs.Jobs.{isSquare, Forward, forwardRefusal, forwardJob, Coding, codingJob, writtenOf, Decoding, settledJob, decodingJob, Inverse, inverseRefusal, inverseJob, thumbnailRefusal, thumbnailJob, Writing, writingJob, Read, readingJob}
+use Rattle.paper.specs.Jobs.{Forward, forwardRefusal, forwardJob, Coding, codingJob, writtenOf, Decoding, settledJob, decodingJob, Inverse, inverseRefusal, inverseJob, thumbnailRefusal, thumbnailJob, Writing, writingJob, Read, readingJob}
 use Rattle.sizes.proofs.Ranges.{levels-few, levels-less, planes-few}
 use Rattle.sizes.proofs.Refusals.{sizes-passed, done-is}
 use Rattle.sizes.proofs.Numbers.{count-in}

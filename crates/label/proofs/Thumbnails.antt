@@ -1,23 +1,20 @@
 -- What a thumbnail of a cut picture is worth: with p planes unfinished no grey is further than (7 (L - r) + 1) (2 ^ p - 1) from the
 -- thumbnail of the original, which is its r-level low band and 128, set into 0 to 255 (`very-thumbnail` of demand 2). In a stream, or in
 -- the blocks of a cut record.
-use mathlib.Core.Path.{_≡_, sym, ap, _∙_}
-use mathlib.Core.Bool.{Bool, true, _&&_}
+use mathlib.Core.Path.{_≡_, refl, ap, _∙_}
+use mathlib.Core.Bool.{Bool, true}
 use mathlib.Core.List.{List}
-use Prim.Native.Nat.{ℕ, _+_, _*_, _-_, _/_, _^_, _<_, _≤_}
+use Prim.Native.Nat.{ℕ, zero, suc, _+_, _*_, _-_, _/_, _^_, _<_, _≤_}
 use native.Mathlib.Omega.{arith}
-use lib.Dec.{eqb}
 use lib.IntN.{ℤ}
 use lib.ListN.{length, take, getD}
-use Rattle.paper.specs.Sizes.{halvingsIn, numbersIn, greyLimit}
+use Rattle.paper.specs.Sizes.{halvingsIn, greyLimit, judged}
 use Rattle.paper.specs.Square.{raised, pictured, lowGreysOf, thumbnailOf}
 use Rattle.paper.specs.Block.{blockBytes}
 use Rattle.paper.specs.Record.{blocksFor}
-use Rattle.paper.specs.Walk.{Settled}
 use Rattle.paper.specs.Jobs.{Inverse, thumbnailRefusal, thumbnailJob, writtenOf}
 use Rattle.sizes.proofs.Ranges.{levels-less}
-use Rattle.square_laws.specs.Thumbnail.{thumbnail-whole, thumbnail-near}
-use Rattle.square_laws.specs.Thumbnail as square
+use Rattle.square_laws.specs.Thumbnail.{thumbnail-whole, thumbnail-smallest, thumbnail-near}
 use Rattle.thumbnail.proofs.Refusals.{halvings-few}
 use Rattle.walk_laws.specs.Read.{decoded-length}
 use Rattle.record_laws.specs.ReadBack.{bitsIn}
@@ -26,9 +23,16 @@ use Rattle.label.proofs.Journeys as way
 use Rattle.label.proofs.Journeys.{Given, truth-given, rebuiltAs, seenAs, Opens, thumbnail-out-is}
 use Rattle.label.proofs.Demand3.{true-numbers, first, numbers-truthful, truthful-off, pictured-most, off-told}
 
+-- a job that is not refused is done
+done : (n : ℕ) (picture : List ℕ) (room : List ℤ) (i : Inverse) → let j : Inverse = judged n (λ r. record { refusal = r; picture = picture; room = room }) i in j .refusal ≡ 0 → j ≡ i
+done zero picture room i h = refl
+done (suc n) picture room i h = absurd (omega arith)
+
 -- At r = L it is the smallest band, and 128.
-pub smallest-band : (k L : ℕ) (numbers : List ℤ) → thumbnailOf k L L numbers ≡ raised (k - L) (take (4 ^ (k - L)) numbers)
-smallest-band = square.thumbnail-smallest
+pub smallest-band : (k L : ℕ) (numbers : List ℤ) (picture : List ℕ) (room : List ℤ) → (thumbnailJob k L L numbers picture room) .refusal ≡ 0
+    → thumbnailJob k L L numbers picture room ≡ rebuiltAs (k - L) (raised (k - L) (take (4 ^ (k - L)) numbers))
+unfolding thumbnailJob
+smallest-band k L numbers picture room h = done (thumbnailRefusal k L L numbers picture room) picture room _ h ∙ ap {B = Inverse} (rebuiltAs (k - L)) (thumbnail-smallest k L numbers)
 
 -- It is made of the first (S / 2 ^ r)² numbers alone: numbers that differ behind them make no difference, not even by a refusal.
 pub first-numbers-alone : (k L r : ℕ) (xs ys : List ℤ) (picture : List ℕ) (room : List ℤ) → length xs ≡ length ys → take (4 ^ (k - r)) xs ≡ take (4 ^ (k - r)) ys

@@ -2,7 +2,7 @@
 use mathlib.Core.List.{List}
 use Prim.Native.Nat.{ℕ}
 use lib.IntN.{ℤ}
-use Rattle.paper.specs.Jobs.{Forward, forwardJob, Coding, codingJob, Decoding, decodingJob, Inverse, inverseJob, thumbnailJob, Writing, writingJob, Read, readingJob}
+use Rattle.paper.specs.Jobs.{forwardJob, codingJob, Decoding, decodingJob, Inverse, inverseJob, thumbnailJob, Writing, writingJob, Read, readingJob}
 
 -- forward, coding up to a bit limit, record writing
 unfoldable pub intoRecord : ℕ → ℕ → List ℕ → List ℕ → ℕ → List ℤ → List ℕ → List ℕ → Writing

@@ -11,7 +11,7 @@ use Rattle.paper.specs.Sizes.{sizeIn, levelsIn, halvingsIn, planesIn, nu
 use Rattle.paper.specs.Lists.{made, joined}
 use Rattle.paper.specs.Line.{highOf, lowOf, highAt, lowAt, lineForward, oddOf, evenOf, evenAt, oddAt, woven, lineBack}
 use Rattle.paper.specs.Places.{interleaved, columnOf, rowOf, zOf, rasterOf}
-use Rattle.paper.specs.Square.{placeOf, lineOf, spotOf, line, along, levelForward, levelBack, onFirst, levelsForward, levelsBack, lowered, raised, grey, pictured, numbersOf, greysOf, thumbnailOf}
+use Rattle.paper.specs.Square.{placeOf, lineOf, spotOf, line, along, levelForward, levelBack, onFirst, levelsForward, levelsBack, lowered, raised, grey, pictured, numbersOf, greysOf, lowBand, lowGreysOf, thumbnailOf}
 use Rattle.paper.specs.Walk.{bitOf, reaches, largest, bitsNeeded, planeCount, testSet, refined, begun, walkNumber, _next_, walkNumbers, walkSet, walkRest, walkPlane, walkPlanes, codeOf, decodeOf}
 use Rattle.paper.specs.Bits.{bits, byteOf, packed, laid, allZero}
 use Rattle.paper.specs.Block.{labelCharacter, labelCharacters, isLabel, sameBytes, plainSum, weighedSum, header, sealed, payloadOf, checksRight, fieldsRight, blockRefusal}
@@ -84,6 +84,8 @@ pub record Checked : Type 0 where
   pub P9-planes : decodingJob 3 2 0 last [] 0 ≡ record { refusal = 0; unfinished = 0; read = 0; numbers = zeros 64 }
   pub P10 : forwardJob 3 2 (replicate 64 255) last ≡ record { refusal = 0; n = 7; numbers = replicate 4 (pos 127) ++ zeros 60 }
   pub P11 : zOf 3 (6 * 8 + 7) ≡ 61
+  -- one level of a single grey that differs, in row 0, column 2: low -1 3 0 0 along the row, then 0 3 0 0 down the columns
+  pub low-band : lowGreysOf 3 1 (128 ∷ 128 ∷ 132 ∷ replicate 61 128) ≡ pos 128 ∷ pos 131 ∷ replicate 14 (pos 128)
   -- side 4: one level is left to undo; the last number, beyond the limit, is none of the first 16
   pub thumbnail-early : thumbnail 1 (pos 5 ∷ (zeros 62 ++ pos 262144 ∷ [])) ≡ record {
     refusal = 0;
@@ -110,5 +112,5 @@ pub record Checked : Type 0 where
   pub no-characters : inEachPlace (0x2F ∷ 0x3A ∷ 0x40 ∷ 0x5B ∷ 0x60 ∷ 0x61 ∷ 0x7A ∷ 0x7B ∷ 0x20 ∷ 0x00 ∷ 0xFF ∷ []) ≡ replicate 88 false
 
 pub checked : Checked
-unfolding sizeIn levelsIn halvingsIn planesIn numbersIn mostBits made joined highOf lowOf highAt lowAt lineForward oddOf evenOf evenAt oddAt woven lineBack interleaved columnOf rowOf zOf rasterOf placeOf lineOf spotOf line along levelForward levelBack onFirst levelsForward levelsBack lowered raised grey pictured numbersOf greysOf thumbnailOf bitOf reaches largest bitsNeeded planeCount testSet refined begun walkNumber _next_ walkNumbers walkSet walkRest walkPlane walkPlanes codeOf decodeOf bits byteOf packed laid allZero labelCharacter labelCharacters isLabel sameBytes plainSum weighedSum header sealed payloadOf checksRight fieldsRight blockRefusal blockOf recordOf inTurn turnRefusal runFrom bitsKept payloadKept sizesRefusal forwardRefusal forwardJob codingRefusal writtenOf codingJob decodingRefusal decodingJob thumbnailRefusal thumbnailJob writingRefusal writingJob readingRefusal readingJob
-checked = record { P1 = refl; P2 = refl; P3 = refl; P4 = refl; P5 = refl; P6 = refl; P7 = refl; P8 = refl; P9 = refl; P9-bits = refl; P9-planes = refl; P10 = refl; P11 = refl; thumbnail-early = refl; thumbnail-smallest = refl; thumbnail-limit = refl; thumbnail-whole = refl; thumbnail-deep = refl; block = refl; label = refl; zeros-kept = refl; block-L6 = refl; label-L6 = refl; checks = refl; every-character = refl; characters = refl; no-characters = refl }
+unfolding sizeIn levelsIn halvingsIn planesIn numbersIn mostBits made joined highOf lowOf highAt lowAt lineForward oddOf evenOf evenAt oddAt woven lineBack interleaved columnOf rowOf zOf rasterOf placeOf lineOf spotOf line along levelForward levelBack onFirst levelsForward levelsBack lowered raised grey pictured numbersOf greysOf lowBand lowGreysOf thumbnailOf bitOf reaches largest bitsNeeded planeCount testSet refined begun walkNumber _next_ walkNumbers walkSet walkRest walkPlane walkPlanes codeOf decodeOf bits byteOf packed laid allZero labelCharacter labelCharacters isLabel sameBytes plainSum weighedSum header sealed payloadOf checksRight fieldsRight blockRefusal blockOf recordOf inTurn turnRefusal runFrom bitsKept payloadKept sizesRefusal forwardRefusal forwardJob codingRefusal writtenOf codingJob decodingRefusal decodingJob thumbnailRefusal thumbnailJob writingRefusal writingJob readingRefusal readingJob
+checked = record { P1 = refl; P2 = refl; P3 = refl; P4 = refl; P5 = refl; P6 = refl; P7 = refl; P8 = refl; P9 = refl; P9-bits = refl; P9-planes = refl; P10 = refl; P11 = refl; low-band = refl; thumbnail-early = refl; thumbnail-smallest = refl; thumbnail-limit = refl; thumbnail-whole = refl; thumbnail-deep = refl; block = refl; label = refl; zeros-kept = refl; block-L6 = refl; label-L6 = refl; checks = refl; every-character = refl; characters = refl; no-characters = refl }

@@ -1,6 +1,6 @@
 -- Thumbnails. The first numbers of L levels are the other L - r levels of the low band that r of them leave: so undone, they give
 -- that low band back, and two of them are as near as two pictures of L - r levels.
-use mathlib.Core.Path.{_≡_, refl, sym, ap, _∙_}
+use mathlib.Core.Path.{_≡_, ap, _∙_}
 use mathlib.Core.List.{List}
 use Prim.Native.Nat.{ℕ, zero, suc, _+_, _*_, _-_, _^_, _<_, _≤_}
 use native.Mathlib.Omega.{arith}
@@ -12,7 +12,6 @@ use lib.IntN.{ℤ, pos}
 use mathlib.Core.Bool.{true}
 use Rattle.paper.specs.Sizes.{numbersIn}
 use Rattle.paper.specs.Lists.{at}
-use Rattle.paper.specs.Line.{lineForward, lineBack}
 use Rattle.paper.specs.Square.{levelForward, onFirst, levelsForward, levelsBack, lowered, raised, pictured, numbersOf, greysOf, lowBand, lowGreysOf, thumbnailOf}
 use Rattle.lift.specs.Off.{Off}
 use Rattle.line.specs.Rule.{Rule, Undoes}

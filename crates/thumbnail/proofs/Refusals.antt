@@ -1,5 +1,5 @@
 -- What a refusal's number says of what was given for a thumbnail, and what the job then leaves and answers.
-use mathlib.Core.Path.{_≡_, refl, sym, _∙_}
+use mathlib.Core.Path.{_≡_, sym, _∙_}
 use mathlib.Core.Bool.{Bool, true, false, _&&_}
 use mathlib.Core.List.{List}
 use Prim.Native.Nat.{ℕ, _-_, _^_, _<_, _≤_}
@@ -11,10 +11,10 @@ use borrow.Author.Tests.{le-leb, lt-leb, leb-true}
 use Rattle.paper.specs.Sizes.{mostSize, mostLevels, levelsIn, halvingsIn, numbersIn, unless}
 use Rattle.paper.specs.Square.{greysOf, pictured, thumbnailOf}
 use Rattle.paper.specs.Jobs.{sizesRefusal, isSquare, thumbnailRefusal, thumbnailJob}
-use Rattle.sizes.proofs.Ranges.{both-first, both-second, size-high, levels-few, levels-less}
+use Rattle.sizes.proofs.Ranges.{both-second, size-high, levels-few, levels-less}
 use Rattle.sizes.proofs.Refusals.{row-passed, rows-left, size-accepted, levels-accepted, sizes-left}
 use Rattle.square_laws.specs.Thumbnail.{first-le, length-first-numbers}
-use Rattle.transform.proofs.Refusals.{squares-are, job-done}
+use Rattle.transform.proofs.Refusals.{sizes-refused, sizes-right, squares-are, job-done}
 
 -- ---- r
 pub halvings-none : (L r : ℕ) → r < 1 → false ≡ halvingsIn L r
@@ -29,17 +29,38 @@ pub halvings-few : (L r : ℕ) → halvingsIn L r ≡ true → r ≤ L
 unfolding halvingsIn
 halvings-few L r e = leb-true r L (both-second (leb 1 r) (leb r L) e)
 
--- where sizes are right, r is below k
-pub halvings-below : (k L r n : ℕ) → n ≡ sizesRefusal k L 0 → n ≤ 0 → halvingsIn L r ≡ true → r < k
-halvings-below k L r n e h f =
-    let z : n ≡ 0 = omega arith in
-    omega (arith, halvings-few L r f, levels-less k L (levels-accepted k L 0 (sym e ∙ z)))
+-- ---- the rows, as they are judged one after the other
+module _ (k L r : ℕ) (numbers : List ℤ) (picture : List ℕ) (room : List ℤ) (n : ℕ) (e : n ≡ sizesRefusal k L 0) where
+  pub sizes-judged : 0 < n → n ≡ thumbnailRefusal k L r numbers picture room
+  unfolding thumbnailRefusal
+  sizes-judged = sizes-refused k L _ n e
 
--- where lengths are right, the room is as long as the first numbers
-pub room-first : (k r numbers picture room : ℕ) → (isSquare k numbers && isSquare (k - r) picture && isSquare (k - r) room) ≡ true → (room ≡ 4 ^ (k - r)) × (room ≤ numbers)
-room-first k r numbers picture room e =
-    let s = squares-are k (k - r) numbers picture room e in
-    (s .2, omega (arith, s .0, s .2, first-le k r))
+  module _ (h : n ≤ 0) where
+    pub halvings-refused : halvingsIn L r ≡ false → 13 ≡ thumbnailRefusal k L r numbers picture room
+    unfolding thumbnailRefusal
+    halvings-refused f = rw (sizes-right k L _ n e h, f)
+
+    module _ (f : halvingsIn L r ≡ true) where
+      -- so r is below k
+      pub halvings-below : r < k
+      halvings-below =
+          let z : n ≡ 0 = omega arith in
+          omega (arith, halvings-few L r f, levels-less k L (levels-accepted k L 0 (sym e ∙ z)))
+
+      pub lengths-refused : (isSquare k (length numbers) && isSquare (k - r) (length picture) && isSquare (k - r) (length room)) ≡ false → 3 ≡ thumbnailRefusal k L r numbers picture room
+      unfolding thumbnailRefusal
+      lengths-refused s = rw (sizes-right k L _ n e h, f, s)
+
+      module _ (s : (isSquare k (length numbers) && isSquare (k - r) (length picture) && isSquare (k - r) (length room)) ≡ true) where
+        -- so the room is as long as the first numbers
+        pub room-within : length room ≤ length numbers
+        room-within =
+            let q = squares-are k (k - r) (length numbers) (length picture) (length room) s in
+            omega (arith, q .0, q .2, first-le k r)
+
+        pub numbers-judged : (b : Bool) → numbersIn (take (length room) numbers) ≡ b → unless 4 b 0 ≡ thumbnailRefusal k L r numbers picture room
+        unfolding thumbnailRefusal
+        numbers-judged b q = rw (sizes-right k L _ n e h, f, s, ← squares-are k (k - r) (length numbers) (length picture) (length room) s .2, q)
 
 -- ---- what no refusal says, in the order in which the work asks for it
 module _ (k L r : ℕ) (numbers : List ℤ) (picture : List ℕ) (room : List ℤ) (n : ℕ) (e : n ≡ thumbnailRefusal k L r numbers picture room) (h : n ≤ 0) where
@@ -62,8 +83,8 @@ module _ (k L r : ℕ) (numbers : List ℤ) (picture : List ℕ) (room : List �
   squared : (length numbers ≡ 4 ^ k) × (length picture ≡ 4 ^ (k - r)) × (length room ≡ 4 ^ (k - r))
   squared = squares-are k (k - r) (length numbers) (length picture) (length room) (row-passed 2 lengths _ rows)
 
-  pub room-within : length room ≤ length numbers
-  room-within = room-first k r (length numbers) (length picture) (length room) (row-passed 2 lengths _ rows) .1
+  pub room-fits : length room ≤ length numbers
+  room-fits = omega (arith, squared .0, squared .2, first-le k r)
 
   -- the numbers of the smaller square are in its range
   pub accepted : (k - r ≤ mostSize) × ((L - r ≤ mostLevels) × ((L - r ≤ k - r) × ((length (take (length room) numbers) ≡ 4 ^ (k - r)) × ((numbersIn (take (length room) numbers) ≡ true) × ((length picture ≡ 4 ^ (k - r)) × (length room ≡ 4 ^ (k - r)))))))

@@ -30,8 +30,8 @@ fn refusal(k: u32, levels: u32, halvings: u32, numbers: &[i32], picture: &[u8], 
     if !transform::squares(k, j, numbers.len(), picture.len(), room.len()) {
         return 3;
     }
-    let places = room.len();
-    if sizes::numbers_in(&numbers[..places]) {
+    let first = room.len();
+    if sizes::numbers_in(&numbers[..first]) {
         0
     } else {
         4
@@ -53,13 +53,9 @@ pub fn thumbnail(
     if refusal > 0 {
         return refusal;
     }
+    let j = k - halvings;
+    let left = levels - halvings;
     let places = room.len();
-    transform::rebuild(
-        k - halvings,
-        levels - halvings,
-        &numbers[..places],
-        picture,
-        room,
-    );
+    transform::rebuild(j, left, &numbers[..places], picture, room);
     0
 }

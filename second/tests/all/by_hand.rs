@@ -1,5 +1,5 @@
 //! The paper's table "Checked by hand", every row and sentence of it; then the
-//! case of label 0417AAL6, and which characters a label may have.
+//! case of label 0417AAL6, which characters a label may have, and thumbnails.
 
 use crate::naive;
 use crate::steps::{self, sizes};
@@ -266,4 +266,46 @@ fn what_is_no_character_is_refused_in_each_place() {
         let standing = read_p3(&block, b"0417AAL6");
         assert_eq!(standing, Err(9), "{:?}", label);
     }
+}
+
+/// The thumbnail at side 8 and two levels where one number is not zero, and its
+/// room.
+fn thumbnail_of(place: usize, number: i32, halvings: u32) -> (Vec<u8>, Vec<i32>) {
+    let sizes = sizes(3, 2);
+    let numbers = steps::one_number(sizes, place, number);
+    steps::thumbnail(sizes, halvings, &numbers).unwrap()
+}
+
+/// P3's numbers. At r = 1 one level is undone: the columns make 5 2 0 0 of 5 0,
+/// then the rows 5 2 0 0 of 5 0 and 2 1 0 0 of 2 0.
+#[test]
+fn thumbnails_of_p3() {
+    let (picture, room) = thumbnail_of(0, 5, 1);
+    assert_eq!(picture[..4], [133, 130, 128, 128]);
+    assert_eq!(picture[4..8], [130, 129, 128, 128]);
+    assert_eq!(picture[8..], [128; 8]);
+    assert_eq!(room[..4], [133, 130, 130, 129]);
+    assert_eq!(room[4..], [128; 12]);
+    let band = (vec![133, 128, 128, 128], vec![133, 128, 128, 128]);
+    assert_eq!(thumbnail_of(0, 5, 2), band);
+}
+
+/// P8's numbers: place 15 is a high of a high. The last column makes 0 0 1 -2
+/// of it, and of that the rows make 0 0 0 1 and 0 0 0 -2.
+#[test]
+fn thumbnails_of_p8() {
+    let (picture, room) = thumbnail_of(15, -3, 1);
+    assert_eq!(picture[..11], [128; 11]);
+    assert_eq!(picture[11..], [129, 128, 128, 128, 126]);
+    assert_eq!(room[..13], [128; 13]);
+    assert_eq!(room[13..], [129, 128, 126]);
+    assert_eq!(thumbnail_of(15, -3, 2), (vec![128; 4], vec![128; 4]));
+}
+
+#[test]
+fn greys_of_a_thumbnail_are_set_into_0_to_255() {
+    let (picture, room) = thumbnail_of(1, 200, 2);
+    assert_eq!((picture[1], room[1]), (255, 328));
+    let (picture, room) = thumbnail_of(2, -200, 2);
+    assert_eq!((picture[2], room[2]), (0, -72));
 }

@@ -10,17 +10,12 @@ use second::record;
 use second::samples::{self, Bits};
 use second::sizes::Sizes;
 
-/// More pictures for small sides, so that each size takes about as long.
-fn pictures_of(sizes: Sizes) -> u64 {
-    [200, 100, 40, 16, 6, 2][sizes.k() as usize - 3]
-}
-
 #[test]
 fn a_whole_record_gives_back_the_very_picture() {
     for (run, sizes) in (0..).zip(steps::all_sizes()) {
         let (k, levels) = (sizes.k(), sizes.levels());
         let mut random = Random::new(30, run);
-        for _ in 0..pictures_of(sizes) {
+        for _ in 0..steps::pictures_of(sizes) {
             let picture = samples::picture(&mut random, sizes);
             let bits = steps::code_picture(sizes, &picture);
             assert!(bits.count <= sizes.most_bits(bits.planes));
@@ -62,7 +57,7 @@ fn a_whole_record_gives_back_the_very_picture() {
 fn no_coding_passes_its_bound() {
     for (run, sizes) in (0..).zip(steps::all_sizes()) {
         let mut random = Random::new(31, run);
-        for _ in 0..pictures_of(sizes) {
+        for _ in 0..steps::pictures_of(sizes) {
             let numbers = samples::numbers(&mut random, sizes);
             let coding = naive::coding(sizes.k(), sizes.levels(), &numbers);
             assert!(coding.bits.len() as u64 <= sizes.most_bits(coding.planes));
@@ -143,7 +138,7 @@ fn every_cut_of_small_pictures_is_worth_what_is_promised() {
 fn random_cuts_at_every_size_are_worth_what_is_promised() {
     for (run, sizes) in (0..).zip(steps::all_sizes()) {
         let mut random = Random::new(33, run);
-        for _ in 0..pictures_of(sizes) {
+        for _ in 0..steps::pictures_of(sizes) {
             let picture = samples::picture(&mut random, sizes);
             let total = steps::code_picture(sizes, &picture).count;
             let mut cuts: Vec<u64> = (0..10).map(|_| random.below(total + 1)).collect();
@@ -158,7 +153,7 @@ fn random_cuts_at_every_size_are_worth_what_is_promised() {
 fn random_cuts_of_any_numbers_are_worth_what_is_promised() {
     for (run, sizes) in (0..).zip(steps::all_sizes()) {
         let mut random = Random::new(34, run);
-        for _ in 0..pictures_of(sizes) {
+        for _ in 0..steps::pictures_of(sizes) {
             let truth = samples::numbers(&mut random, sizes);
             let total = samples::coding(sizes, &truth).count;
             let mut cuts: Vec<u64> = (0..10).map(|_| random.below(total + 1)).collect();

@@ -66,6 +66,11 @@ fn block_check_agrees() {
 }
 
 #[test]
+fn thumbnail_agrees() {
+    compare_both(8);
+}
+
+#[test]
 fn labels_agree_at_every_byte_in_each_place() {
     for place in 0..8 {
         for byte in 0..=255 {

@@ -10,3 +10,4 @@ mod records;
 mod requests;
 mod slips;
 mod steps;
+mod thumbnails;

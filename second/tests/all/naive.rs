@@ -104,8 +104,9 @@ pub fn forward(k: u32, levels: u32, picture: &[u8]) -> Vec<i32> {
     numbers
 }
 
-/// The greys of all rows, before they are set into 0 to 255.
-fn inverse(k: u32, levels: u32, numbers: &[i32]) -> Square {
+/// The greys of all rows, before they are set into 0 to 255. It stops before
+/// the last `left` levels, and then gives the upper left square alone.
+fn inverse(k: u32, levels: u32, left: u32, numbers: &[i32]) -> Square {
     let side = 1 << k;
     let mut square = vec![vec![0.0; side]; side];
     for (row, line) in square.iter_mut().enumerate() {
@@ -113,14 +114,32 @@ fn inverse(k: u32, levels: u32, numbers: &[i32]) -> Square {
             *value = f64::from(numbers[z_place(row, column, side)]);
         }
     }
-    for level in (0..levels).rev() {
+    for level in (left..levels).rev() {
         square = change_lines(&square, side >> level, false, inverse_line);
         square = change_lines(&square, side >> level, true, inverse_line);
     }
-    for value in square.iter_mut().flatten() {
-        *value += 128.0;
+    square.truncate(side >> left);
+    for line in &mut square {
+        line.truncate(side >> left);
+        for value in line {
+            *value += 128.0;
+        }
     }
     square
+}
+
+/// The picture, and the room in Z order. A float turned into a byte is set into
+/// 0 to 255.
+fn shown(square: &Square) -> (Vec<u8>, Vec<i32>) {
+    let picture = square.iter().flatten().map(|grey| *grey as u8).collect();
+    let side = square.len();
+    let mut room = vec![0; side * side];
+    for (row, line) in square.iter().enumerate() {
+        for (column, grey) in line.iter().enumerate() {
+            room[z_place(row, column, side)] = *grey as i32;
+        }
+    }
+    (picture, room)
 }
 
 // --- The walk ---
@@ -362,6 +381,12 @@ fn lowest(conditions: &[(u32, bool)]) -> u32 {
     given.map(|(number, _)| *number).min().unwrap_or(0)
 }
 
+/// The first number whose condition holds, or 0: where 13 comes before 3.
+fn first(conditions: &[(u32, bool)]) -> u32 {
+    let mut given = conditions.iter().filter(|(_, holds)| *holds);
+    given.next().map_or(0, |(number, _)| *number)
+}
+
 fn judge_alone(block: &[u8]) -> u32 {
     let [k, levels, planes] = [1, 2, 3].map(|place| u32::from(block[place]));
     let count = word(block, 14);
@@ -525,14 +550,7 @@ pub fn answer(request: &Request) -> Answer {
             let refusal = lowest(&conditions);
             let (mut picture, mut room) = (lent_bytes(*picture), lent_numbers(*room));
             if refusal == 0 {
-                let square = inverse(*k, *levels, numbers);
-                // A float turned into a byte is set into 0 to 255.
-                picture = square.iter().flatten().map(|grey| *grey as u8).collect();
-                for (row, line) in square.iter().enumerate() {
-                    for (column, grey) in line.iter().enumerate() {
-                        room[z_place(row, column, 1 << k)] = *grey as i32;
-                    }
-                }
+                (picture, room) = shown(&inverse(*k, *levels, 0, numbers));
             }
             vec![
                 ("refusal", Field::Small(refusal)),
@@ -626,6 +644,32 @@ pub fn answer(request: &Request) -> Answer {
                 6
             };
             vec![("refusal", Field::Small(refusal))]
+        }
+        Request::Thumbnail {
+            k,
+            levels,
+            halvings,
+            numbers,
+            picture,
+            room,
+        } => {
+            let mut conditions = wrong_sizes(*k, *levels).to_vec();
+            conditions.push((13, *halvings == 0 || halvings > levels));
+            conditions.push(wrong_lengths(*k, &[numbers.len()]));
+            // Of a wrong k or r it says nothing, and is asked nothing.
+            let greys = 4_usize.pow(k.saturating_sub(*halvings).min(8));
+            conditions.push((3, [picture, room] != [&greys, &greys]));
+            conditions.push(wrong_numbers(&numbers[..greys.min(numbers.len())]));
+            let refusal = first(&conditions);
+            let (mut picture, mut room) = (lent_bytes(*picture), lent_numbers(*room));
+            if refusal == 0 {
+                (picture, room) = shown(&inverse(*k, *levels, *halvings, numbers));
+            }
+            vec![
+                ("refusal", Field::Small(refusal)),
+                ("picture", Field::Bytes(picture)),
+                ("room", Field::Numbers(room)),
+            ]
         }
     }
 }

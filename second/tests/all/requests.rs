@@ -7,6 +7,7 @@ use second::compare::{self, Outcome};
 use second::random::Random;
 use second::samples;
 use second::show;
+use second::sizes;
 use second::transcript::{self, lent_bytes, lent_numbers, Answer, Field, Request};
 use second::transcript::{MOST_BYTES, MOST_LABEL, MOST_NUMBERS};
 use std::collections::{BTreeMap, BTreeSet};
@@ -22,7 +23,7 @@ fn cases_of(jobs: &[u8], largest: u32, count: u64) -> Vec<Request> {
         .collect()
 }
 
-const ALL_JOBS: [u8; 7] = [1, 2, 3, 4, 5, 6, 7];
+const ALL_JOBS: [u8; 8] = [1, 2, 3, 4, 5, 6, 7, 8];
 
 fn small(answer: &Answer, wanted: &str) -> u32 {
     match answer.iter().find(|(name, _)| *name == wanted) {
@@ -33,7 +34,7 @@ fn small(answer: &Answer, wanted: &str) -> u32 {
 
 #[test]
 fn every_refusal_of_every_job_appears_regularly() {
-    let refusals: [&[u32]; 7] = [
+    let refusals: [&[u32]; 8] = [
         &[0, 1, 2, 3],
         &[0, 1, 2, 3, 4],
         &[0, 1, 2, 3, 5, 6],
@@ -41,6 +42,7 @@ fn every_refusal_of_every_job_appears_regularly() {
         &[0, 1, 2, 5, 6, 7],
         &[0, 6, 7, 8, 9, 10],
         &[0, 6, 8, 9],
+        &[0, 1, 2, 3, 4, 13],
     ];
     for (job, expected) in ALL_JOBS.iter().zip(refusals) {
         let mut seen: BTreeMap<u32, u32> = BTreeMap::new();
@@ -62,6 +64,20 @@ fn every_number_that_ends_a_run_appears_regularly() {
     }
     assert_eq!(seen.keys().copied().collect::<Vec<u32>>(), [0, 8, 9, 10]);
     assert!(seen.values().all(|times| *times >= 20), "{:?}", seen);
+}
+
+/// Thumbnails are also asked for, and given, with a number behind them that is
+/// beyond the limits.
+#[test]
+fn numbers_that_4_does_not_judge_appear_regularly() {
+    let mut unjudged = 0;
+    for request in cases_of(&[8], 4, 2_000) {
+        if let Request::Thumbnail { numbers, .. } = &request {
+            let is_given = small(&transcript::answer(&request), "refusal") == 0;
+            unjudged += u32::from(is_given && sizes::check_magnitudes(numbers).is_err());
+        }
+    }
+    assert!(unjudged >= 20, "{}", unjudged);
 }
 
 #[test]
@@ -183,6 +199,19 @@ fn requests_are_written_as_laid_down() {
         4, 9, 0, 0, 0, 0, 0, 0, 0, 1, 0, 0, 0, 0xFE, 0xFF, 0xFF, 0xFF, 1, 0, 0, 0, 2, 0, 0, 0,
     ];
     assert_eq!(written(inverse), laid_down);
+    let thumbnail = Request::Thumbnail {
+        k: 3,
+        levels: 2,
+        halvings: 13,
+        numbers: vec![-2],
+        picture: 1,
+        room: 2,
+    };
+    let laid_down = [
+        8, 3, 0, 0, 0, 2, 0, 0, 0, 13, 0, 0, 0, 1, 0, 0, 0, 0xFE, 0xFF, 0xFF, 0xFF, 1, 0, 0, 0, 2,
+        0, 0, 0,
+    ];
+    assert_eq!(written(thumbnail), laid_down);
 }
 
 #[test]
@@ -206,6 +235,12 @@ fn cases_keep_within_the_limits() {
             Request::Coding { numbers, bytes, .. } => (numbers.len(), *bytes, 0),
             Request::Decoding { numbers, bytes, .. } => (*numbers, bytes.len(), 0),
             Request::Inverse {
+                numbers,
+                picture,
+                room,
+                ..
+            }
+            | Request::Thumbnail {
                 numbers,
                 picture,
                 room,

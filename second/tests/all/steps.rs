@@ -16,6 +16,11 @@ pub fn sizes(k: u32, levels: u32) -> Sizes {
     Sizes::new(k, levels).expect("k and L are within their ranges")
 }
 
+/// More pictures for small sides, so that each size takes about as long.
+pub fn pictures_of(sizes: Sizes) -> u64 {
+    [200, 100, 40, 16, 6, 2][sizes.k() as usize - 3]
+}
+
 /// Numbers that are zero but at one place.
 pub fn one_number(sizes: Sizes, place: usize, number: i32) -> Vec<i32> {
     let mut numbers = vec![0; sizes.places()];
@@ -53,6 +58,19 @@ pub fn inverse(sizes: Sizes, numbers: &[i32]) -> Result<(Vec<u8>, Vec<i32>), Ref
     let mut picture = vec![1; sizes.places()];
     let mut room = vec![-1; sizes.places()];
     jobs::inverse(sizes.k(), sizes.levels(), numbers, &mut picture, &mut room)?;
+    Ok((picture, room))
+}
+
+/// The thumbnail, and its greys in Z order before they are set into 0 to 255.
+pub fn thumbnail(
+    sizes: Sizes,
+    halvings: u32,
+    numbers: &[i32],
+) -> Result<(Vec<u8>, Vec<i32>), Refusal> {
+    let greys = sizes.halved_places(halvings);
+    let (mut picture, mut room) = (vec![1; greys], vec![-1; greys]);
+    let (k, levels) = (sizes.k(), sizes.levels());
+    jobs::thumbnail(k, levels, halvings, numbers, &mut picture, &mut room)?;
     Ok((picture, room))
 }
 

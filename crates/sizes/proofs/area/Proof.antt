@@ -1,6 +1,5 @@
 use Rattle.sizes.proofs.Counts.{area-shifted}
 use native.Mathlib.Omega.{arith}
-use mathlib.Core.Path.{sym, _∙_}
 use borrow.Author.Needs.{needs}
 use Rattle.sizes.proofs.area.Statement.{statement}
 use Rattle.sizes.proofs.area.Tie as tie

@@ -3,7 +3,6 @@ use Rattle.sizes.proofs.Counts.{area-some, planes-times}
 use Rattle.sizes.proofs.Ranges.{size-high, area-most, planes-few}
 use Rattle.paper.specs.Sizes.{mostBits}
 use native.Mathlib.Omega.{arith}
-use borrow.Author.Needs.{needs}
 use Rattle.sizes.proofs.most_bits.Statement.{statement}
 use Rattle.sizes.proofs.most_bits.Tie as tie
 

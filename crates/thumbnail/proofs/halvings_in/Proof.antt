@@ -1,6 +1,5 @@
 -- `thumbnail::halvings_in` meets its contract.
 use Rattle.thumbnail.proofs.Refusals.{halvings-none, halvings-some}
-use borrow.Author.Needs.{needs}
 use Rattle.thumbnail.proofs.halvings_in.Statement.{statement}
 use Rattle.thumbnail.proofs.halvings_in.Tie as tie
 
