@@ -106,7 +106,7 @@ def opened(label, record):
 
 if __name__ == '__main__':
     given, text = sys.argv[1:], __doc__.strip()
-    if given == ['--version']: sys.exit(print('reader.py 0.3.0, edition 1'))
+    if given == ['--version']: sys.exit(print('reader.py 0.4.0, edition 1'))
     if given == ['--help']: sys.exit(print(text))
     if len(given) != 3 or given[0][:1] == '-': sys.exit(print(text, file=sys.stderr) or 2)
     try:
