@@ -17,8 +17,8 @@ static void fail(const char *what)
     exit(1);
 }
 
-/* The call, once it is seen that it left the numbers as they were, and so picture and room if it refused, else what lies
-   behind the places that they were lent with. */
+/* The call, once it is seen that it left the numbers as they were, and so picture and room if it refused, else what
+   lies behind the places lent. */
 static uint32_t asked(uint32_t k, uint32_t levels, uint32_t r, size_t given, size_t greys, size_t work)
 {
     size_t all = 1 + (given > greys ? given > work ? given : work : greys > work ? greys : work);
@@ -147,7 +147,7 @@ int main(void)
     show(2);
 
     memset(numbers, 0, sizeof numbers);
-    printf("refused, and nothing changed:\n");
+    printf("judged, and where it is refused nothing is changed:\n");
     every();
     for (uint32_t r = 1; r <= 2; r++)
         lengths(r);

@@ -63,6 +63,22 @@ pub fn coding(k: u32, levels: u32, picture: &[u8]) -> Coding {
     }
 }
 
+/// The low band that r levels leave of a picture, plus 128, in Z order: what a thumbnail shows, before it is set.
+pub fn low_greys(k: u32, r: u32, picture: &[u8]) -> Vec<i32> {
+    let mut numbers = vec![77; label::places(k)];
+    label::forward(k, r, picture, &mut numbers).expect("a picture");
+    let few = 4_usize.pow(k - r);
+    numbers[..few].iter().map(|low| low + 128).collect()
+}
+
+/// Greys in Z order set into 0 to 255, row by row.
+pub fn set(greys: &[i32]) -> Vec<u8> {
+    let side = greys.len().isqrt();
+    let spread = |i: usize| (0..8).map(|bit| (i >> bit & 1) << (2 * bit)).sum::<usize>();
+    let places = (0..side).flat_map(|row| (0..side).map(move |column| 2 * spread(row) + spread(column)));
+    places.map(|z| greys[z].clamp(0, 255) as u8).collect()
+}
+
 /// A picture's record under LABEL, in a room that is filled to the last byte.
 pub fn record(k: u32, levels: u32, coding: &Coding) -> Vec<u8> {
     let mut room = vec![0xAA; label::blocks(coding.bits) * label::BLOCK_BYTES];
