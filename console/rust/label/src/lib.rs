@@ -51,10 +51,10 @@
 //! # What a cut picture is worth
 //! With p planes unfinished no wavelet number's magnitude is above the true one, none is short by more than 2^p - 1,
 //! none that isn't zero has the wrong sign, and no grey is off by more than [`grey_limit`]. With p = 0 it is the very
-//! picture. A thumbnail of the side halved r times is worth what L - r levels are: with p = 0 it is the low band that r
-//! levels leave of the picture, plus 128 and set into 0 to 255, and else no grey is further from that than
-//! `grey_limit(levels - halvings, unfinished)`. All that is about bits of one coding: blocks of two shots under one label
-//! with the same k, L and n fit together unnoticed, and what they show was never shot.
+//! picture. A thumbnail of r halvings is, with p = 0, the low band that r levels leave of the picture, plus 128 and set
+//! into 0 to 255; else no grey is further from that than `grey_limit(levels - halvings, unfinished)`. All that is about
+//! bits of one coding: blocks of two shots under one label with the same k, L and n fit together unnoticed, and what they
+//! show was never shot.
 //!
 //! # Linking
 //! The archive is x86-64 code for ELF, as on Linux, and calls `memcpy` and `memset`, nothing else. `build.rs` looks for
