@@ -3,7 +3,7 @@
 mod pictures;
 
 use label::{Refusal, BLOCK_BYTES, PAYLOAD_BITS, PAYLOAD_BYTES};
-use pictures::{coding, low_greys, media_block, pictures, record, set, sizes, Chance, LABEL, MEDIA};
+use pictures::{coding, low_bands, media_block, pictures, record, set, sizes, Chance, Low, LABEL, MEDIA};
 
 /// What decoded numbers and greys are worth against the true ones, with p planes unfinished.
 fn as_good_as_promised(levels: u32, unfinished: u32, numbers: &[i32], truth: &[i32], shown: &[u8], picture: &[u8]) {
@@ -18,27 +18,25 @@ fn as_good_as_promised(levels: u32, unfinished: u32, numbers: &[i32], truth: &[i
     }
 }
 
-/// Every thumbnail of decoded numbers is worth what is promised, with p planes unfinished: the low band at p = 0. Gives
-/// how many were another than the low band.
-fn thumbnails_as_promised(k: u32, levels: u32, unfinished: u32, numbers: &[i32], picture: &[u8]) -> usize {
-    let mut unlike = 0;
-    for r in 1..=levels {
+/// Every thumbnail of decoded numbers is worth what is promised, with p planes unfinished: at p = 0 it is the low band,
+/// before its greys are set too. Gives how many show other greys than the low band's.
+fn thumbnails_as_promised(k: u32, unfinished: u32, numbers: &[i32], bands: &[Low]) -> usize {
+    let (levels, mut unlike) = (bands.len() as u32, 0);
+    for (r, low) in (1..).zip(bands) {
         let few = label::thumbnail_places(k, r);
         let (mut shown, mut room) = (vec![9; few], vec![9; few]);
         label::thumbnail(k, levels, r, numbers, &mut shown, &mut room).expect("r from 1 to L");
         assert_eq!(set(&room), shown, "the room has other greys");
-        let (truth, limit) = (low_greys(k, r, picture), label::grey_limit(levels - r, unfinished));
+        let limit = label::grey_limit(levels - r, unfinished);
         if unfinished == 0 {
-            assert_eq!((limit, &room), (0, &truth), "the very low band, before it is set");
+            assert_eq!((limit, &room), (0, &low.before), "the low band of {r} levels");
         }
-        let truth = set(&truth);
-        for (grey, truth) in shown.iter().zip(&truth) {
-            assert!(
-                grey.abs_diff(*truth) <= limit,
-                "r {r}: a grey is off by more than {limit}"
-            );
-        }
-        unlike += usize::from(shown != truth);
+        let near = |(grey, truth): (&u8, &u8)| grey.abs_diff(*truth) <= limit;
+        assert!(
+            shown.iter().zip(&low.greys).all(near),
+            "r {r}: a grey is off by more than {limit}"
+        );
+        unlike += usize::from(shown != low.greys);
     }
     unlike
 }
@@ -68,7 +66,8 @@ fn there_and_back() {
             assert_eq!(numbers, coding.numbers);
             label::inverse(k, levels, &numbers, &mut shown, &mut room).expect("what was settled");
             assert_eq!(shown, picture, "the very picture, k {k}, {levels} levels");
-            assert_eq!(thumbnails_as_promised(k, levels, 0, &numbers, &picture), 0);
+            let bands = low_bands(k, levels, &picture);
+            assert_eq!(thumbnails_as_promised(k, 0, &numbers, &bands), 0);
         }
     }
 }
@@ -81,6 +80,7 @@ fn a_cut_record_keeps_its_promise() {
             let coding = coding(k, levels, &picture);
             let record = record(k, levels, &coding);
             let blocks = record.len() / BLOCK_BYTES;
+            let bands = low_bands(k, levels, &picture);
             let mut last = 18;
             // a cut within a block is worth as much as one at its front
             for length in (1..=blocks).map(|count| (count * BLOCK_BYTES + count * 7 % 512).min(record.len())) {
@@ -101,7 +101,7 @@ fn a_cut_record_keeps_its_promise() {
                 last = settled.unfinished;
                 cut += usize::from(count < blocks);
                 unlike += usize::from(shown != picture);
-                thumbnails += thumbnails_as_promised(k, levels, settled.unfinished, &numbers, &picture);
+                thumbnails += thumbnails_as_promised(k, settled.unfinished, &numbers, &bands);
             }
         }
     }
@@ -117,6 +117,7 @@ fn a_coding_cut_at_any_bit_keeps_its_promise() {
     for (k, levels) in sizes().filter(|(k, _)| *k < 6) {
         for picture in pictures(k) {
             let coding = coding(k, levels, &picture);
+            let bands = low_bands(k, levels, &picture);
             for _ in 0..20 {
                 let limit = chance.below(coding.bits + 1);
                 let mut bytes = vec![0xFF; coding.bytes.len()];
@@ -137,7 +138,7 @@ fn a_coding_cut_at_any_bit_keeps_its_promise() {
                 let settled = label::decode(k, levels, cut.n, &mut numbers, &bytes, limit).expect("bits");
                 label::inverse(k, levels, &numbers, &mut shown, &mut work).expect("numbers");
                 as_good_as_promised(levels, settled.unfinished, &numbers, &coding.numbers, &shown, &picture);
-                thumbnails_as_promised(k, levels, settled.unfinished, &numbers, &picture);
+                thumbnails_as_promised(k, settled.unfinished, &numbers, &bands);
             }
         }
     }

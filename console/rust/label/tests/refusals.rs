@@ -130,7 +130,7 @@ fn halvings() {
                 assert_eq!(thumbnail(k, levels, r, &numbers, [few; 2]), Ok(()));
             } else {
                 // whatever the lengths are
-                for lent in [few, label::places(k), 0, 1] {
+                for lent in [few, 0, 1, 64] {
                     assert_eq!(thumbnail(k, levels, r, &numbers, [lent; 2]), Err(Refusal::Halvings));
                 }
             }
