@@ -1,5 +1,5 @@
--- Demand 1. Every call is refused by the lowest row of the table that applies, and by 0 exactly where none does; a refused
--- call answers 0 for all else and changes nothing lent. (That every call ends is what the checker proves of every function.)
+-- Demand 1. Every call is refused by the lowest row of the table that applies (a thumbnail by the first that is judged, since 13 is
+-- judged before 3), and by 0 exactly where none does; a refused call answers 0 for all else and changes nothing lent. (That every call ends is what the checker proves of every function.)
 use mathlib.Core.Path.{_≡_, refl, sym, ap, _∙_, subst}
 use mathlib.Core.Bool.{Bool, true, false, not, _&&_}
 use mathlib.Core.List.{List, [], _∷_}
@@ -12,10 +12,10 @@ use borrow.Author.Tests.{leb-true, eq-eqb}
 use Rattle.paper.specs.Sizes.{sizeIn, levelsIn, planesIn, numbersIn, mostBits, unless, judged}
 use Rattle.paper.specs.Block.{blockBytes, isLabel, payloadBytes, payloadStart, checksRight, fieldsRight, blockRefusal}
 use Rattle.paper.specs.Record.{blocksFor, wholeBlocks, blockAt, said, inTurn, turnRefusal}
-use Rattle.paper.specs.Jobs.{sizesRefusal, isSquare, Forward, forwardRefusal, forwardJob, Coding, codingRefusal, codingJob, Decoding, decodingRefusal, decodingJob, Inverse, inverseRefusal, inverseJob, Writing, writingRefusal, writingJob, Read, readingRefusal, readingJob, checkJob}
+use Rattle.paper.specs.Jobs.{sizesRefusal, isSquare, Forward, forwardRefusal, forwardJob, Coding, codingRefusal, codingJob, Decoding, decodingRefusal, decodingJob, Inverse, inverseRefusal, inverseJob, thumbnailRefusal, thumbnailJob, Writing, writingRefusal, writingJob, Read, readingRefusal, readingJob, checkJob}
 use Rattle.record_laws.specs.Ended.{whole-block}
-use Rattle.label.specs.Table.{Row, row, Lowest, leavesSomething, Refuses, forwardRows, codingRows, decodingRows, inverseRows, writingRows, readingRows, checkRows}
-use Rattle.label.proofs.Rows.{first, lowest, judged-refuses}
+use Rattle.label.specs.Table.{Row, row, Lowest, First, leavesSomething, Refuses, forwardRows, codingRows, decodingRows, inverseRows, thumbnailRows, writingRows, readingRows, checkRows}
+use Rattle.label.proofs.Rows.{first, lowest, first-applies, judged-refuses}
 
 -- No refusal leaves anything behind.
 pub nothing-left : (r : ℕ) → leavesSomething r ≡ false
@@ -23,33 +23,39 @@ nothing-left r = refl
 
 -- ---- forward
 pub forward-refuses : (k L : ℕ) (picture : List ℕ) (numbers : List ℤ)
-    → Refuses (λ (a : Forward). a .refusal) (forwardRows k L picture numbers) (forwardJob k L picture numbers) (λ r. record { refusal = r; n = 0; numbers = numbers })
+    → Refuses Lowest (λ (a : Forward). a .refusal) (forwardRows k L picture numbers) (forwardJob k L picture numbers) (λ r. record { refusal = r; n = 0; numbers = numbers })
 unfolding forwardJob forwardRefusal sizesRefusal
-forward-refuses k L picture numbers = judged-refuses _ _ _ _ _ (λ r l. refl) (λ r. refl) refl _ refl refl
+forward-refuses k L picture numbers = judged-refuses _ _ _ _ _ (λ r l. refl) (λ r. refl) refl Lowest _ refl (lowest 0 _ refl)
 
 -- ---- coding
 pub coding-refuses : (k L : ℕ) (numbers : List ℤ) (limit : ℕ) (bytes : List ℕ)
-    → Refuses (λ (a : Coding). a .refusal) (codingRows k L numbers) (codingJob k L numbers limit bytes) (λ r. record { refusal = r; written = 0; n = 0; bytes = bytes })
+    → Refuses Lowest (λ (a : Coding). a .refusal) (codingRows k L numbers) (codingJob k L numbers limit bytes) (λ r. record { refusal = r; written = 0; n = 0; bytes = bytes })
 unfolding codingJob codingRefusal sizesRefusal
-coding-refuses k L numbers limit bytes = judged-refuses _ _ _ _ _ (λ r l. refl) (λ r. refl) refl _ refl refl
+coding-refuses k L numbers limit bytes = judged-refuses _ _ _ _ _ (λ r l. refl) (λ r. refl) refl Lowest _ refl (lowest 0 _ refl)
 
 -- ---- decoding
 pub decoding-refuses : (k L n : ℕ) (numbers : List ℤ) (bytes : List ℕ) (b : ℕ)
-    → Refuses (λ (a : Decoding). a .refusal) (decodingRows k L n numbers bytes b) (decodingJob k L n numbers bytes b) (λ r. record { refusal = r; unfinished = 0; read = 0; numbers = numbers })
+    → Refuses Lowest (λ (a : Decoding). a .refusal) (decodingRows k L n numbers bytes b) (decodingJob k L n numbers bytes b) (λ r. record { refusal = r; unfinished = 0; read = 0; numbers = numbers })
 unfolding decodingJob decodingRefusal sizesRefusal
-decoding-refuses k L n numbers bytes b = judged-refuses _ _ _ _ _ (λ r l. refl) (λ r. refl) refl _ refl refl
+decoding-refuses k L n numbers bytes b = judged-refuses _ _ _ _ _ (λ r l. refl) (λ r. refl) refl Lowest _ refl (lowest 0 _ refl)
 
 -- ---- inverse
 pub inverse-refuses : (k L : ℕ) (numbers : List ℤ) (picture : List ℕ) (room : List ℤ)
-    → Refuses (λ (a : Inverse). a .refusal) (inverseRows k L numbers picture room) (inverseJob k L numbers picture room) (λ r. record { refusal = r; picture = picture; room = room })
+    → Refuses Lowest (λ (a : Inverse). a .refusal) (inverseRows k L numbers picture room) (inverseJob k L numbers picture room) (λ r. record { refusal = r; picture = picture; room = room })
 unfolding inverseJob inverseRefusal sizesRefusal
-inverse-refuses k L numbers picture room = judged-refuses _ _ _ _ _ (λ r l. refl) (λ r. refl) refl _ refl refl
+inverse-refuses k L numbers picture room = judged-refuses _ _ _ _ _ (λ r l. refl) (λ r. refl) refl Lowest _ refl (lowest 0 _ refl)
+
+-- ---- thumbnail
+pub thumbnail-refuses : (k L r : ℕ) (numbers : List ℤ) (picture : List ℕ) (room : List ℤ)
+    → Refuses First (λ (a : Inverse). a .refusal) (thumbnailRows k L r numbers picture room) (thumbnailJob k L r numbers picture room) (λ n. record { refusal = n; picture = picture; room = room })
+unfolding thumbnailJob thumbnailRefusal sizesRefusal
+thumbnail-refuses k L r numbers picture room = judged-refuses _ _ _ _ _ (λ r l. refl) (λ r. refl) refl First _ refl (first-applies _ refl)
 
 -- ---- record writing
 pub writing-refuses : (k L n : ℕ) (label bytes : List ℕ) (b : ℕ) (room : List ℕ)
-    → Refuses (λ (a : Writing). a .refusal) (writingRows k L n label bytes b room) (writingJob k L n label bytes b room) (λ r. record { refusal = r; blocks = 0; room = room })
+    → Refuses Lowest (λ (a : Writing). a .refusal) (writingRows k L n label bytes b room) (writingJob k L n label bytes b room) (λ r. record { refusal = r; blocks = 0; room = room })
 unfolding writingJob writingRefusal sizesRefusal
-writing-refuses k L n label bytes b room = judged-refuses _ _ _ _ _ (λ r l. refl) (λ r. refl) refl _ refl refl
+writing-refuses k L n label bytes b room = judged-refuses _ _ _ _ _ (λ r l. refl) (λ r. refl) refl Lowest _ refl (lowest 0 _ refl)
 
 -- ---- record reading
 module _ (s label room : List ℕ) where
@@ -73,9 +79,9 @@ module _ (s label room : List ℕ) where
       go true false e = refl
       go false b e = refl
 
-  pub reading-refuses : Refuses (λ (a : Read). a .refusal) (readingRows s label room) (readingJob s label room) (λ r. record { refusal = r; k = 0; L = 0; n = 0; blocks = 0; bits = 0; ended = 0; room = room })
+  pub reading-refuses : Refuses Lowest (λ (a : Read). a .refusal) (readingRows s label room) (readingJob s label room) (λ r. record { refusal = r; k = 0; L = 0; n = 0; blocks = 0; bits = 0; ended = 0; room = room })
   unfolding readingJob
-  reading-refuses = judged-refuses _ _ _ _ _ (λ r l. refl) (λ r. refl) refl _ reading-first refl
+  reading-refuses = judged-refuses _ _ _ _ _ (λ r l. refl) (λ r. refl) refl Lowest _ reading-first (lowest 0 _ refl)
 
 -- ---- single-block check: nothing is lent but to be read
 pub check-lowest : (block : List ℕ) → Lowest (checkRows block) (checkJob block)

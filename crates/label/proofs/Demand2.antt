@@ -1,5 +1,6 @@
 -- Demand 2. A whole record gives back the very picture. Any bits at all, cut anywhere, decode to exactly what the walk has
--- settled, zero for the rest, all of them written, with the true count of unfinished planes.
+-- settled, zero for the rest, all of them written, with the true count of unfinished planes. A thumbnail of a whole record is the low
+-- band of the very picture.
 use mathlib.Core.Path.{_≡_, refl, sym, ap, _∙_, subst}
 use mathlib.Core.Bool.{Bool, true, false}
 use mathlib.Core.List.{List, _++_}
@@ -9,8 +10,8 @@ use lib.IntN.{ℤ}
 use lib.ListN.{length, take}
 use lib.Seq.{length-take-le}
 use borrow.Author.Tests.{eq-eqb, le-leb}
-use Rattle.paper.specs.Sizes.{sizeIn, levelsIn, planesIn}
-use Rattle.paper.specs.Square.{greysOf, pictured}
+use Rattle.paper.specs.Sizes.{sizeIn, levelsIn, halvingsIn, planesIn}
+use Rattle.paper.specs.Square.{greysOf, pictured, lowGreysOf, thumbnailOf}
 use Rattle.paper.specs.Walk.{codeOf, decodeOf, Settled}
 use Rattle.paper.specs.Bits.{bits, laid}
 use Rattle.paper.specs.Block.{blockBytes, payloadStart, payloadBytes}
@@ -20,13 +21,15 @@ use Rattle.sizes.proofs.Ranges.{levels-less}
 use Rattle.sizes.proofs.Refusals.{sizes-passed, done-is}
 use Rattle.bits.proofs.OneBit.{bits-length}
 use Rattle.square_laws.specs.Picture.{lossless}
+use Rattle.square_laws.specs.Thumbnail.{thumbnail-whole}
+use Rattle.thumbnail.proofs.Refusals.{halvings-few}
 use Rattle.walk_laws.specs.Decoded.{all-bits}
 use Rattle.walk_laws.specs.Unfinished.{AllRead, planesRead, unfinished-true}
 use Rattle.record_laws.specs.BothJobs.{room-written}
 use Rattle.record_laws.specs.ReadBack.{bitsIn, every-bit, readBack}
-use Rattle.label.specs.Journey.{intoRecord, Seen, outOfRecord}
+use Rattle.label.specs.Journey.{intoRecord, Seen, outOfRecord, thumbnailOutOfRecord}
 use Rattle.label.proofs.Way.{Numbers, written-all, accepted}
-use Rattle.label.proofs.Journeys.{Given, truth, n, code, truth-given, into-is, out-is, settled}
+use Rattle.label.proofs.Journeys.{Given, truth, n, code, truth-given, into-is, Opens, settled, rebuiltAs, out-is, thumbnail-out-is}
 
 -- ---- any bits at all
 pub any-bits : (k L n : ℕ) (numbers : List ℤ) (bytes : List ℕ) (b : ℕ) → sizeIn k ≡ true → levelsIn k L ≡ true → length numbers ≡ 4 ^ k → planesIn n ≡ true → b ≤ 8 * length bytes
@@ -45,7 +48,7 @@ any-bits-unfinished k L n numbers bytes b s l e p h r a =
 
 -- ---- a whole record
 -- a picture, and room enough for all of its bits; whatever the lent places held
-pub record Enough (k L : ℕ) (label picture : List ℕ) (limit : ℕ) (numbers : List ℤ) (bytes room payload : List ℕ) (lent : List ℤ) (shown : List ℕ) (greys : List ℤ) : Type 0 where
+pub record Enough (k L : ℕ) (label picture : List ℕ) (limit : ℕ) (numbers : List ℤ) (bytes room payload : List ℕ) (lent : List ℤ) : Type 0 where
   pub given : Given k L label picture
   pub limit-holds : length (code k L label picture given) ≤ limit
   pub numbers-hold : length numbers ≡ 4 ^ k
@@ -53,10 +56,8 @@ pub record Enough (k L : ℕ) (label picture : List ℕ) (limit : ℕ) (numbers 
   pub room-holds : blockBytes * blocksFor (length (code k L label picture given)) ≤ length room
   pub payload-holds : payloadBytes payloadStart * blocksFor (length (code k L label picture given)) ≤ length payload
   pub lent-holds : length lent ≡ 4 ^ k
-  pub shown-holds : length shown ≡ 4 ^ k
-  pub greys-hold : length greys ≡ 4 ^ k
 
-module _ (k L : ℕ) (label picture : List ℕ) (limit : ℕ) (numbers : List ℤ) (bytes room payload : List ℕ) (lent : List ℤ) (shown : List ℕ) (greys : List ℤ) (enough : Enough k L label picture limit numbers bytes room payload lent shown greys) where
+module _ (k L : ℕ) (label picture : List ℕ) (limit : ℕ) (numbers : List ℤ) (bytes room payload : List ℕ) (lent : List ℤ) (enough : Enough k L label picture limit numbers bytes room payload lent) where
   abbrev G : Given k L label picture
   G = enough .given
 
@@ -82,19 +83,41 @@ module _ (k L : ℕ) (label picture : List ℕ) (limit : ℕ) (numbers : List �
       let w = room-written k L (n k L label picture G) label (laid (writtenOf k L T limit bytes) bytes) (length (writtenOf k L T limit bytes)) room (accepted k L T (truth-given k L label picture G) limit bytes label (G .labelled) room fits) in
       (ap (λ (a : Writing). a .refusal) (e ∙ w), ap (λ (a : Writing). a .blocks) (e ∙ w) ∙ ap (λ (l : List Bool). blocksFor (length l)) all-written)
 
+  -- what is seen of the whole record: every number, and what a job makes of them
+  abbrev pub whole : List ℕ
+  whole = take (blockBytes * W .blocks) (W .room)
+
+  blocks-are : blocksFor (length (writtenOf k L T limit bytes)) ≡ blocksFor (length C)
+  blocks-are = ap (λ (l : List Bool). blocksFor (length l)) all-written
+
+  whole-opens : Opens (writtenOf k L T limit bytes) payload (blockBytes * W .blocks)
+  whole-opens = record {
+    some = omega (arith, whole-written .1);
+    within = omega (arith, whole-written .1, blocks-are);
+    payload-fits = let m : blockBytes * W .blocks / blockBytes ≡ blocksFor (length C) = omega (arith, whole-written .1) in omega (arith, m, enough .payload-holds);
+  }
+
+  all-settled : settled k L label picture G limit numbers (enough .numbers-hold) bytes room fits (blockBytes * W .blocks) payload whole-opens lent (enough .lent-holds) ≡ record { numbers = T; unfinished = 0; read = length C }
+  all-settled =
+      let m : blockBytes * W .blocks / blockBytes ≡ blocksFor (length C) = omega (arith, whole-written .1) in
+      all-bits k L T (levels-less k L (G .levels)) (truth-given k L label picture G .square) (truth-given k L label picture G .small) (bitsIn (writtenOf k L T limit bytes) (blockBytes * W .blocks / blockBytes)) (omega (arith, m, ap length all-written))
+
   -- The whole record, read, decoded and inverted, is the very picture, with no plane unfinished.
-  pub very-picture : let S = outOfRecord label (take (blockBytes * W .blocks) (W .room)) payload lent shown greys in
+  pub very-picture : (shown : List ℕ) → length shown ≡ 4 ^ k → (greys : List ℤ) → length greys ≡ 4 ^ k → let S = outOfRecord label whole payload lent shown greys in
       (S .read .refusal ≡ 0) × (S .decoded ≡ record { refusal = 0; unfinished = 0; read = length C; numbers = T }) × (S .rebuilt ≡ record { refusal = 0; picture = picture; room = greysOf k L T })
-  very-picture =
-      let B = blocksFor (length C) in
-      let b : blocksFor (length (writtenOf k L T limit bytes)) ≡ B = ap (λ (l : List Bool). blocksFor (length l)) all-written in
-      let m : blockBytes * W .blocks / blockBytes ≡ B = omega (arith, whole-written .1) in
-      let out = out-is k L label picture G limit numbers (enough .numbers-hold) bytes room fits (blockBytes * W .blocks) (omega (arith, whole-written .1)) (omega (arith, whole-written .1, b)) payload (omega (arith, m, enough .payload-holds)) lent (enough .lent-holds) shown (enough .shown-holds) greys (enough .greys-hold) in
-      let all : decodeOf k L (n k L label picture G) (take (bitsIn (writtenOf k L T limit bytes) (blockBytes * W .blocks / blockBytes)) C) ≡ record { numbers = T; unfinished = 0; read = length C } =
-      all-bits k L T (levels-less k L (G .levels)) (truth-given k L label picture G .square) (truth-given k L label picture G .small) (bitsIn (writtenOf k L T limit bytes) (blockBytes * W .blocks / blockBytes)) (omega (arith, m, ap length all-written)) in
-      let picture-back : pictured k (greysOf k L T) ≡ picture = lossless L k picture (omega (arith, levels-less k L (G .levels))) (G .square) (G .greys) in (
+  very-picture shown e greys f =
+      let out = out-is k L label picture G limit numbers (enough .numbers-hold) bytes room fits (blockBytes * W .blocks) payload whole-opens lent (enough .lent-holds) shown e greys f in
+      let back : pictured k (greysOf k L T) ≡ picture = lossless L k picture (omega (arith, levels-less k L (G .levels))) (G .square) (G .greys) in (
         ap (λ (s : Seen). s .read .refusal) out,
-        ap (λ (s : Seen). s .decoded) out ∙ ap settledJob all,
-        ap (λ (s : Seen). s .rebuilt) out ∙ ap {B = Inverse} (λ (s : Settled). record { refusal = 0; picture = pictured k (greysOf k L (s .numbers)); room = greysOf k L (s .numbers) }) all
-            ∙ ap {B = Inverse} (λ (g : List ℕ). record { refusal = 0; picture = g; room = greysOf k L T }) picture-back,
+        ap (λ (s : Seen). s .decoded) out ∙ ap settledJob all-settled,
+        ap (λ (s : Seen). s .rebuilt) out ∙ ap {B = Inverse} (λ (s : Settled). rebuiltAs k (greysOf k L (s .numbers))) all-settled
+            ∙ ap {B = Inverse} (λ (g : List ℕ). record { refusal = 0; picture = g; room = greysOf k L T }) back,
       )
+
+  -- With its side halved r times it is the r-level low band of the original, and 128, set into 0 to 255; before it is set, it is in the room.
+  pub very-thumbnail : (r : ℕ) → halvingsIn L r ≡ true → (shown : List ℕ) → length shown ≡ 4 ^ (k - r) → (greys : List ℤ) → length greys ≡ 4 ^ (k - r)
+      → thumbnailOutOfRecord r label whole payload lent shown greys .rebuilt ≡ record { refusal = 0; picture = pictured (k - r) (lowGreysOf k r picture); room = lowGreysOf k r picture }
+  very-thumbnail r halves shown e greys f =
+      ap (λ (s : Seen). s .rebuilt) (thumbnail-out-is k L label picture G limit numbers (enough .numbers-hold) bytes room fits (blockBytes * W .blocks) payload whole-opens lent (enough .lent-holds) r halves shown e greys f)
+      ∙ ap {B = Inverse} (λ (s : Settled). rebuiltAs (k - r) (thumbnailOf k L r (s .numbers))) all-settled
+      ∙ ap {B = Inverse} (rebuiltAs (k - r)) (thumbnail-whole r L k picture (halvings-few L r halves) (omega (arith, levels-less k L (G .levels))))

@@ -27,7 +27,7 @@ use Rattle.walk_laws.specs.Read.{decoded-length}
 use Rattle.record_laws.specs.ReadBack.{bitsIn}
 use Rattle.label.specs.Journey.{intoRecord, Seen, outOfRecord}
 use Rattle.label.proofs.Journeys as way
-use Rattle.label.proofs.Journeys.{Given, truth-given, seenAs, out-is}
+use Rattle.label.proofs.Journeys.{Given, truth-given, rebuiltAs, seenAs, Opens, out-is}
 
 -- ---- a number that keeps the three promises is off by at most 2 ^ p - 1
 both-off : {B : ℕ} {x y : ℤ} → Over B x y × Over B y x → Off B x y
@@ -42,7 +42,7 @@ off-below B a c = rw (negsuc-⊖ a, negsuc-⊖ c) (omega overs)
 off-none : (B a : ℕ) → suc a ≤ B → Over B (negsuc a) (pos 0) × Over B (pos 0) (negsuc a)
 off-none B a = rw (negsuc-⊖ a, pos-⊖ 0) (omega overs)
 
-truthful-off : (p : ℕ) (x z : ℤ) → Truthful p x z → Off (2 ^ p - 1) x z
+pub truthful-off : (p : ℕ) (x z : ℤ) → Truthful p x z → Off (2 ^ p - 1) x z
 truthful-off p (pos a) (pos c) t = both-off (off-above (2 ^ p - 1) a c (omega (arith, t .notShort)) (omega (arith, t .notAbove)))
 truthful-off p (pos a) (negsuc c) t = absurd (let z : _≡_ {A = ℕ} 0 1 = cc (t .rightSign (λ (e : negsuc c ≡ pos 0). let z : _≡_ {A = ℕ} 0 1 = cc in omega arith)) in omega arith)
 truthful-off p (negsuc a) (pos zero) t = both-off (off-none (2 ^ p - 1) a (omega (arith, t .notShort)))
@@ -55,9 +55,14 @@ unfolding grey
 grey-most (pos g) = omega arith
 grey-most (negsuc g) = omega arith
 
-pictured-most : (k : ℕ) (greys : List ℤ) (place : ℕ) → place < 4 ^ k → getD (pictured k greys) place 0 ≤ 255
+pub pictured-most : (k : ℕ) (greys : List ℤ) (place : ℕ) → place < 4 ^ k → getD (pictured k greys) place 0 ≤ 255
 unfolding pictured
 pictured-most k greys place h = rw (getD-made (4 ^ k) (λ place. grey (at greys (zOf k place))) place 0 h) (grey-most (at greys (zOf k place)))
+
+-- so what a person is told may stop at 255
+pub off-told : (L p seen meant : ℕ) → seen ≤ 255 → meant ≤ 255 → (seen ≤ meant + (7 * L + 1) * (2 ^ p - 1)) × (meant ≤ seen + (7 * L + 1) * (2 ^ p - 1)) → (seen ≤ meant + greyLimit L p) × (meant ≤ seen + greyLimit L p)
+unfolding greyLimit
+off-told L p seen meant a b off = (omega (arith, off .0), omega (arith, off .1))
 
 -- ---- any first part of the bits
 module _ (k L : ℕ) (label picture : List ℕ) (given : Given k L label picture) where
@@ -95,10 +100,7 @@ module _ (k L : ℕ) (label picture : List ℕ) (given : Given k L label picture
   -- Nor by more than the number that a person is told, which stops at 255.
   pub grey-limit-told : (b place : ℕ) → place < 4 ^ k
       → (shows b place ≤ getD picture place 0 + greyLimit L ((first b) .unfinished)) × (getD picture place 0 ≤ shows b place + greyLimit L ((first b) .unfinished))
-  unfolding greyLimit
-  grey-limit-told b place h =
-      let off = grey-limit b place h in
-      (omega (arith, off .0, pictured-most k (greysOf k L ((first b) .numbers)) place h), omega (arith, off .1, given .greys place))
+  grey-limit-told b place h = off-told L ((first b) .unfinished) _ _ (pictured-most k (greysOf k L ((first b) .numbers)) place h) (omega (arith, given .greys place)) (grey-limit b place h)
 
   -- ---- any record of it, cut anywhere that still opens
   module _ (limit : ℕ) (numbers : List ℤ) (numbers-fit : length numbers ≡ 4 ^ k) (bytes room : List ℕ) (room-fits : blockBytes * blocksFor (length (writtenOf k L true-numbers limit bytes)) ≤ length room)
@@ -110,15 +112,13 @@ module _ (k L : ℕ) (label picture : List ℕ) (given : Given k L label picture
     abbrev pub left : ℕ → ℕ
     left m = bitsIn (writtenOf k L true-numbers limit bytes) (m / blockBytes)
 
-    -- a cut that still opens: one whole block at least; and room for the payload of its whole blocks
-    pub record Opens (m : ℕ) : Type 0 where
-      pub some : blockBytes ≤ m
-      pub within : m ≤ blockBytes * blocksFor (length (writtenOf k L true-numbers limit bytes))
-      pub payload-fits : payloadBytes payloadStart * (m / blockBytes) ≤ length payload
+    -- a cut that still opens
+    abbrev pub Open : ℕ → Type 0
+    Open m = Opens (writtenOf k L true-numbers limit bytes) payload m
 
-    module _ (m : ℕ) (opens : Opens m) where
-      seen-is : seen m ≡ seenAs k L (way.n k L label picture given) (writtenOf k L true-numbers limit bytes) payload (m / blockBytes) (first (left m))
-      seen-is = out-is k L label picture given limit numbers numbers-fit bytes room room-fits m (opens .some) (opens .within) payload (opens .payload-fits) lent lent-fits shown shown-fits greys greys-fit
+    module _ (m : ℕ) (opens : Open m) where
+      seen-is : seen m ≡ seenAs k L (way.n k L label picture given) (writtenOf k L true-numbers limit bytes) payload (m / blockBytes) (first (left m)) (rebuiltAs k (greysOf k L ((first (left m)) .numbers)))
+      seen-is = out-is k L label picture given limit numbers numbers-fit bytes room room-fits m payload opens lent lent-fits shown shown-fits greys greys-fit
 
       -- It opens, and what is decoded and shown is what its bits settle.
       pub cut-opens : (seen m .read .refusal ≡ 0) × (seen m .decoded .refusal ≡ 0) × (seen m .rebuilt .refusal ≡ 0)
@@ -147,6 +147,6 @@ module _ (k L : ℕ) (label picture : List ℕ) (given : Given k L label picture
       cut-grey-limit-told place h = rw (cut-unfinished, cut-picture) (grey-limit-told (left m) place h)
 
     -- A longer part of the record never moves a number away from the truth.
-    pub cut-never-away : (m l : ℕ) → Opens m → Opens l → m ≤ l → (i : ℕ)
+    pub cut-never-away : (m l : ℕ) → Open m → Open l → m ≤ l → (i : ℕ)
         → natAbs (at true-numbers i -ℤ at (seen l .decoded .numbers) i) ≤ natAbs (at true-numbers i -ℤ at (seen m .decoded .numbers) i)
     cut-never-away m l o q h i = rw (cut-numbers m o, cut-numbers l q) (never-away (left m) (left l) i (omega arith))

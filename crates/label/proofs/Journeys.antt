@@ -9,31 +9,38 @@ use lib.Dec.{eqb}
 use lib.IntN.{ℤ}
 use lib.ListN.{length, take}
 use borrow.Author.Tests.{eq-eqb}
-use Rattle.paper.specs.Sizes.{sizeIn, levelsIn, numbersIn, mostPlanes}
+use Rattle.paper.specs.Sizes.{sizeIn, levelsIn, halvingsIn, numbersIn, mostPlanes}
 use Rattle.paper.specs.Lists.{Bytes}
-use Rattle.paper.specs.Square.{numbersOf, greysOf, pictured}
+use Rattle.paper.specs.Square.{numbersOf, greysOf, pictured, thumbnailOf}
 use Rattle.paper.specs.Walk.{planeCount, codeOf, decodeOf, Settled}
 use Rattle.paper.specs.Bits.{laid}
 use Rattle.paper.specs.Block.{blockBytes, payloadStart, payloadBytes, isLabel}
 use Rattle.paper.specs.Record.{blocksFor}
-use Rattle.paper.specs.Jobs.{isSquare, Forward, forwardRefusal, forwardJob, Coding, codingJob, writtenOf, Decoding, settledJob, decodingJob, Inverse, inverseRefusal, inverseJob, Writing, writingJob, Read, readingJob}
+use Rattle.paper.specs.Jobs.{isSquare, Forward, forwardRefusal, forwardJob, Coding, codingJob, writtenOf, Decoding, settledJob, decodingJob, Inverse, inverseRefusal, inverseJob, thumbnailRefusal, thumbnailJob, Writing, writingJob, Read, readingJob}
 use Rattle.sizes.proofs.Ranges.{levels-few, levels-less, planes-few}
 use Rattle.sizes.proofs.Refusals.{sizes-passed, done-is}
 use Rattle.sizes.proofs.Numbers.{count-in}
 use Rattle.square_laws.specs.Numbers.{numbers-in, length-numbers}
+use Rattle.square_laws.specs.Thumbnail.{first-in}
 use Rattle.record_laws.specs.ReadBack.{bitsIn, readBack}
 use Rattle.walk_laws.specs.Read.{decoded-length}
 use Rattle.walk_laws.specs.Room.{decoded-in}
-use Rattle.label.specs.Journey.{intoRecord, Seen, outOfRecord}
+use Rattle.label.specs.Journey.{intoRecord, Seen, seenBy, outOfRecord, thumbnailOutOfRecord}
 use Rattle.label.proofs.Way.{Numbers, coded, read, decoded}
 
+-- greys made a picture of side 2 ^ k
+abbrev pub rebuiltAs : ℕ → List ℤ → Inverse
+rebuiltAs k greys = record { refusal = 0; picture = pictured k greys; room = greys }
+
 -- what is seen of the first j blocks of the record of l, where its bits settle s
-abbrev pub seenAs : ℕ → ℕ → ℕ → List Bool → List ℕ → ℕ → Settled → Seen
-seenAs k L n l payload j s = record {
-  read = readBack k L n l payload j;
-  decoded = settledJob s;
-  rebuilt = record { refusal = 0; picture = pictured k (greysOf k L (s .numbers)); room = greysOf k L (s .numbers) };
-}
+abbrev pub seenAs : ℕ → ℕ → ℕ → List Bool → List ℕ → ℕ → Settled → Inverse → Seen
+seenAs k L n l payload j s rebuilt = record { read = readBack k L n l payload j; decoded = settledJob s; rebuilt = rebuilt }
+
+-- the first m bytes of the record of l still open: one whole block at least; and there is room for the payload of its whole blocks
+pub record Opens (l : List Bool) (payload : List ℕ) (m : ℕ) : Type 0 where
+  pub some : blockBytes ≤ m
+  pub within : m ≤ blockBytes * blocksFor (length l)
+  pub payload-fits : payloadBytes payloadStart * (m / blockBytes) ≤ length payload
 
 -- a picture of S² greys, sizes in their range, a label
 pub record Given (k L : ℕ) (label picture : List ℕ) : Type 0 where
@@ -78,7 +85,7 @@ module _ (k L : ℕ) (label picture : List ℕ) (given : Given k L label picture
         ∙ ap (λ (c : Coding). writingJob k L (c .n) label (c .bytes) (c .written) room) (coded k L truth truth-given limit bytes)
 
     -- ---- out of its first m bytes
-    module _ (m : ℕ) (opens : blockBytes ≤ m) (within : m ≤ blockBytes * blocksFor (length recorded)) (payload : List ℕ) (payload-fits : payloadBytes payloadStart * (m / blockBytes) ≤ length payload) (lent : List ℤ) (lent-fits : length lent ≡ 4 ^ k) (shown : List ℕ) (shown-fits : length shown ≡ 4 ^ k) (greys : List ℤ) (greys-fit : length greys ≡ 4 ^ k) where
+    module _ (m : ℕ) (payload : List ℕ) (opens : Opens recorded payload m) (lent : List ℤ) (lent-fits : length lent ≡ 4 ^ k) where
       -- the bits that are left, and what they settle
       abbrev pub left : ℕ
       left = bitsIn recorded (m / blockBytes)
@@ -86,21 +93,36 @@ module _ (k L : ℕ) (label picture : List ℕ) (given : Given k L label picture
       abbrev pub settled : Settled
       settled = decodeOf k L n (take left code)
 
-      rebuilt : inverseJob k L (settled .numbers) shown greys ≡ record { refusal = 0; picture = pictured k (greysOf k L (settled .numbers)); room = greysOf k L (settled .numbers) }
-      unfolding inverseJob inverseRefusal
-      rebuilt = done-is _ _ _ (sizes-passed k L _ (given .size) (given .levels) ∙ rw (
-        eq-eqb (length (settled .numbers)) (4 ^ k) (decoded-length k L n (take left code)),
-        eq-eqb (length shown) (4 ^ k) shown-fits,
-        eq-eqb (length greys) (4 ^ k) greys-fit,
-        decoded-in k L n (take left code) (planes-few n (count-in truth)),
-      ))
+      -- whatever job makes greys of it
+      by-is : (rebuilds : ℕ → ℕ → List ℤ → Inverse) → seenBy rebuilds label (take m ((intoRecord k L label picture limit numbers bytes room) .room)) payload lent
+          ≡ seenAs k L n recorded payload (m / blockBytes) settled (rebuilds k L (settled .numbers))
+      by-is rebuilds =
+          ap (λ (r : Read). let d = decodingJob (r .k) (r .L) (r .n) lent (r .room) (r .bits) in record { read = r; decoded = d; rebuilt = rebuilds (r .k) (r .L) (d .numbers) })
+          (ap (λ (w : Writing). readingJob (take m (w .room)) label payload) into-is ∙ read k L truth truth-given limit bytes label (given .labelled) room room-fits m (opens .some) (opens .within) payload (opens .payload-fits))
+          ∙ ap (λ (d : Decoding). record { read = readBack k L n recorded payload (m / blockBytes); decoded = d; rebuilt = rebuilds k L (d .numbers) })
+          (decoded k L truth truth-given limit bytes label (given .labelled) room room-fits m (opens .some) (opens .within) payload (opens .payload-fits) lent lent-fits)
 
-      pub out-is : outOfRecord label (take m ((intoRecord k L label picture limit numbers bytes room) .room)) payload lent shown greys
-          ≡ seenAs k L n recorded payload (m / blockBytes) settled
-      unfolding outOfRecord
-      out-is =
-          ap (λ (r : Read). let d = decodingJob (r .k) (r .L) (r .n) lent (r .room) (r .bits) in record { read = r; decoded = d; rebuilt = inverseJob (r .k) (r .L) (d .numbers) shown greys })
-          (ap (λ (w : Writing). readingJob (take m (w .room)) label payload) into-is ∙ read k L truth truth-given limit bytes label (given .labelled) room room-fits m opens within payload payload-fits)
-          ∙ ap (λ (d : Decoding). record { read = readBack k L n recorded payload (m / blockBytes); decoded = d; rebuilt = inverseJob k L (d .numbers) shown greys })
-          (decoded k L truth truth-given limit bytes label (given .labelled) room room-fits m opens within payload payload-fits lent lent-fits)
-          ∙ ap {B = Seen} (λ (i : Inverse). record { read = readBack k L n recorded payload (m / blockBytes); decoded = settledJob settled; rebuilt = i }) rebuilt
+      -- the picture
+      pub out-is : (shown : List ℕ) → length shown ≡ 4 ^ k → (greys : List ℤ) → length greys ≡ 4 ^ k
+          → outOfRecord label (take m ((intoRecord k L label picture limit numbers bytes room) .room)) payload lent shown greys
+          ≡ seenAs k L n recorded payload (m / blockBytes) settled (rebuiltAs k (greysOf k L (settled .numbers)))
+      unfolding outOfRecord inverseJob inverseRefusal
+      out-is shown e greys f = by-is (λ k L decoded. inverseJob k L decoded shown greys) ∙ ap {B = Seen} (seenAs k L n recorded payload (m / blockBytes) settled) (done-is _ _ _ (sizes-passed k L _ (given .size) (given .levels) ∙ rw (
+        eq-eqb (length (settled .numbers)) (4 ^ k) (decoded-length k L n (take left code)),
+        eq-eqb (length shown) (4 ^ k) e,
+        eq-eqb (length greys) (4 ^ k) f,
+        decoded-in k L n (take left code) (planes-few n (count-in truth)),
+      )))
+
+      -- a thumbnail
+      pub thumbnail-out-is : (r : ℕ) → halvingsIn L r ≡ true → (shown : List ℕ) → length shown ≡ 4 ^ (k - r) → (greys : List ℤ) → length greys ≡ 4 ^ (k - r)
+          → thumbnailOutOfRecord r label (take m ((intoRecord k L label picture limit numbers bytes room) .room)) payload lent shown greys
+          ≡ seenAs k L n recorded payload (m / blockBytes) settled (rebuiltAs (k - r) (thumbnailOf k L r (settled .numbers)))
+      unfolding thumbnailOutOfRecord thumbnailJob thumbnailRefusal
+      thumbnail-out-is r halves shown e greys f = by-is (λ k L decoded. thumbnailJob k L r decoded shown greys) ∙ ap {B = Seen} (seenAs k L n recorded payload (m / blockBytes) settled) (done-is _ _ _ (sizes-passed k L _ (given .size) (given .levels) ∙ rw (
+        halves,
+        eq-eqb (length (settled .numbers)) (4 ^ k) (decoded-length k L n (take left code)),
+        eq-eqb (length shown) (4 ^ (k - r)) e,
+        eq-eqb (length greys) (4 ^ (k - r)) f,
+        first-in (4 ^ (k - r)) (settled .numbers) (decoded-in k L n (take left code) (planes-few n (count-in truth))),
+      )))

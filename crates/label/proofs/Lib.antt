@@ -6,4 +6,5 @@ pub mod Way
 pub mod Journeys
 pub mod Demand2
 pub mod Demand3
+pub mod Thumbnails
 pub mod Damage

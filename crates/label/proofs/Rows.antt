@@ -1,4 +1,4 @@
--- Rows that stand lowest number first, judged one after the other, give the lowest that applies.
+-- Rows judged one after the other give the first that applies; if they stand lowest number first, the lowest.
 use mathlib.Core.Path.{_≡_, refl, sym, ap, _∙_, subst}
 use mathlib.Core.Bool.{Bool, true, false, _&&_}
 use mathlib.Core.List.{List, [], _∷_, List·Memᴰ, List·Memᴰ·not-nil, List·Memᴰ·cases-cons}
@@ -9,7 +9,7 @@ use lib.Dec.{ltb}
 use borrow.Author.Tests.{ltb-true}
 use Rattle.sizes.proofs.Ranges.{both-first, both-second}
 use Rattle.paper.specs.Sizes.{unless, judged}
-use Rattle.label.specs.Table.{Row, Lowest, leavesSomething, Refuses}
+use Rattle.label.specs.Table.{Row, Lowest, First, leavesSomething, Refuses}
 
 -- the first row that applies
 abbrev pub first : List Row → ℕ
@@ -58,6 +58,28 @@ lowest m (v ∷ rows) h = go (v .holds) refl (lowest (v .number) rows (later m v
       applies = λ p. let f = R .applies p in (f .0, List·Memᴰ.List·Memᴰ·tail (f .1), f .2, f .3);
     }
 
+-- numbers above 0
+abbrev pub numbered : List Row → Bool
+numbered [] = true
+numbered (w ∷ rows) = ltb 0 (w .number) && numbered rows
+
+pub first-applies : (rows : List Row) → numbered rows ≡ true → First rows (first rows)
+first-applies [] h = record {
+  none = λ e i. absurd (List·Memᴰ·not-nil i);
+  applies = λ (p : 0 < 0). absurd (let z : 0 < 0 = p in omega arith);
+}
+first-applies (v ∷ rows) h = go (v .holds) refl (first-applies rows (both-second (ltb 0 (v .number)) (numbered rows) h))
+  where
+    go : (b : Bool) → v .holds ≡ b → First rows (first rows) → First (v ∷ rows) (unless (v .number) b (first rows))
+    go false e R = record {
+      none = λ (z : v .number ≡ 0). absurd (omega (arith, ltb-true 0 (v .number) (both-first (ltb 0 (v .number)) (numbered rows) h)));
+      applies = λ p. ([], v, rows, refl, (λ w i. absurd (List·Memᴰ·not-nil i)), e, refl);
+    }
+    go true e R = record {
+      none = λ z {w} i. ⊎-elim (λ (q : w ≡ v). ap (λ (u : Row). u .holds) q ∙ e) (λ j. R .none z j) (List·Memᴰ·cases-cons i);
+      applies = λ p. let f = R .applies p in (v ∷ f .0, f .1, f .2, ap (λ (l : List Row). v ∷ l) (f .3), (λ w i. ⊎-elim (λ (q : w ≡ v). ap (λ (u : Row). u .holds) q ∙ e) (λ j. f .4 w j) (List·Memᴰ·cases-cons i)), f .5, f .6);
+    }
+
 -- ---- a job that is judged by its rows: `left` is what its definition says of a refusal, which may leave something behind
 -- where the number is one that does
 module _ {A : Type 0} (refusalOf : A → ℕ) (rows : List Row) (left refused : ℕ → A) (done : A) (kept : (r : ℕ) → leavesSomething r ≡ false → left r ≡ refused r) (says : (r : ℕ) → refusalOf (left r) ≡ r) (fine : refusalOf done ≡ 0) where
@@ -69,8 +91,8 @@ module _ {A : Type 0} (refusalOf : A → ℕ) (rows : List Row) (left refused : 
   unchanged zero h l = absurd (omega arith)
   unchanged (suc r) h l = kept (suc r) l
 
-  pub judged-refuses : (r : ℕ) → r ≡ first rows → rising 0 rows ≡ true → Refuses refusalOf rows (judged r left done) refused
-  judged-refuses r e h = record {
-    lowest = subst (Lowest rows) (sym (answered r ∙ e)) (lowest 0 rows h);
+  pub judged-refuses : (Judged : List Row → ℕ → Type 0) (r : ℕ) → r ≡ first rows → Judged rows (first rows) → Refuses Judged refusalOf rows (judged r left done) refused
+  judged-refuses Judged r e h = record {
+    number = subst (Judged rows) (sym (answered r ∙ e)) h;
     unchanged = subst (λ q. 0 < q → leavesSomething q ≡ false → judged r left done ≡ refused q) (sym (answered r)) (unchanged r);
   }

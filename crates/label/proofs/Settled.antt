@@ -9,7 +9,7 @@ use denote.Triple.Clauses.{AtExit}
 use contract.Lifetimes.{Lfts}
 use borrow.Fn.World.{ArgsD, ResD}
 use borrow.Fn.Kinds.{endedOf}
-use Rattle.paper.specs.Jobs.{Forward, forwardJob, Coding, codingJob, Decoding, decodingJob, Inverse, inverseJob, Writing, writingJob, Read, readingJob, checkJob}
+use Rattle.paper.specs.Jobs.{Forward, forwardJob, Coding, codingJob, Decoding, decodingJob, Inverse, inverseJob, thumbnailJob, Writing, writingJob, Read, readingJob, checkJob}
 use Rattle.label.proofs.forward as forward-fn
 use Rattle.label.proofs.forward.Kinds as forward-kinds
 use Rattle.label.proofs.forward.Reads as forward-contract
@@ -22,6 +22,9 @@ use Rattle.label.proofs.decode.Reads as decode-contract
 use Rattle.label.proofs.inverse as inverse-fn
 use Rattle.label.proofs.inverse.Kinds as inverse-kinds
 use Rattle.label.proofs.inverse.Reads as inverse-contract
+use Rattle.label.proofs.thumbnail as thumbnail-fn
+use Rattle.label.proofs.thumbnail.Kinds as thumbnail-kinds
+use Rattle.label.proofs.thumbnail.Reads as thumbnail-contract
 use Rattle.label.proofs.write as write-fn
 use Rattle.label.proofs.write.Kinds as write-kinds
 use Rattle.label.proofs.write.Reads as write-contract
@@ -110,6 +113,22 @@ inverse-does κs a r s x = x
 
 pub inverse-settled : (κs : Lfts 3) → OneOutcome (inverse-contract.Post κs) (inverse-outcome κs)
 inverse-settled κs = one-outcome (inverse-contract.Post κs) (inverse-job κs) (inverse-outcome κs) (inverse-does κs)
+
+-- ---- thumbnail: the picture, and the working room
+abbrev pub thumbnail-job : (κs : Lfts 3) → ArgsD thumbnail-fn.signature κs → Inverse
+thumbnail-job κs a = thumbnailJob (a .0) (a .1 .0) (a .1 .1 .0) (now (a .1 .1 .1 .0)) (now (a .1 .1 .1 .1 .0)) (now (a .1 .1 .1 .1 .1 .0))
+
+abbrev pub thumbnail-outcome : (κs : Lfts 3) → ResD thumbnail-fn.signature κs → AtExit (endedOf 3 thumbnail-kinds.ps thumbnail-kinds.r) κs → Inverse
+thumbnail-outcome κs r s = record { refusal = r; picture = now (s .1 .1 .1 .1 .0); room = now (s .1 .1 .1 .1 .1 .0) }
+
+pub thumbnail-takes : (κs : Lfts 3) → Takes (thumbnail-contract.Pre κs)
+thumbnail-takes κs a = tt
+
+pub thumbnail-does : (κs : Lfts 3) → Does (thumbnail-contract.Post κs) (thumbnail-job κs) (thumbnail-outcome κs)
+thumbnail-does κs a r s x = x
+
+pub thumbnail-settled : (κs : Lfts 3) → OneOutcome (thumbnail-contract.Post κs) (thumbnail-outcome κs)
+thumbnail-settled κs = one-outcome (thumbnail-contract.Post κs) (thumbnail-job κs) (thumbnail-outcome κs) (thumbnail-does κs)
 
 -- ---- write: the count of blocks, and the room
 abbrev pub write-job : (κs : Lfts 3) → ArgsD write-fn.signature κs → Writing

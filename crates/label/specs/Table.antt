@@ -1,12 +1,12 @@
--- The refusal table, as rows of which some apply: what it means to refuse by the lowest.
+-- The refusal table, as rows of which some apply: what it means to refuse by the lowest, or by the first that is judged.
 use mathlib.Core.Path.{_≡_}
 use mathlib.Core.Bool.{Bool, true, false, _&&_}
-use mathlib.Core.List.{List, [], _∷_, List·Memᴰ}
-use Prim.Native.Nat.{ℕ, _*_, _<_, _≤_}
+use mathlib.Core.List.{List, [], _∷_, _++_, List·Memᴰ}
+use Prim.Native.Nat.{ℕ, _*_, _-_, _^_, _<_, _≤_}
 use lib.Dec.{leb, eqb}
 use lib.IntN.{ℤ}
-use lib.ListN.{length}
-use Rattle.paper.specs.Sizes.{sizeIn, levelsIn, planesIn, numbersIn, mostBits}
+use lib.ListN.{length, take}
+use Rattle.paper.specs.Sizes.{sizeIn, levelsIn, halvingsIn, planesIn, numbersIn, mostBits}
 use Rattle.paper.specs.Block.{blockBytes, isLabel, payloadBytes, payloadStart, checksRight, fieldsRight}
 use Rattle.paper.specs.Record.{blocksFor, wholeBlocks, blockAt, said, inTurn}
 use Rattle.paper.specs.Jobs.{isSquare}
@@ -25,14 +25,20 @@ pub record Lowest (rows : List Row) (r : ℕ) : Type 0 where
   pub least : {w : Row} → List·Memᴰ w rows → w .holds ≡ false → (0 < r) × (r ≤ w .number)
   pub applies : 0 < r → (w : Row) × List·Memᴰ w rows × (w .holds ≡ false) × (w .number ≡ r)
 
+-- r is the number of the first row that applies, in the order in which the rows stand, and 0 exactly where none does; a job whose
+-- rows do not stand by number is judged so
+pub record First (rows : List Row) (r : ℕ) : Type 0 where
+  pub none : r ≡ 0 → {w : Row} → List·Memᴰ w rows → w .holds ≡ true
+  pub applies : 0 < r → (before : List Row) × (w : Row) × (after : List Row) × (rows ≡ before ++ (w ∷ after)) × ((v : Row) → List·Memᴰ v before → v .holds ≡ true) × (w .holds ≡ false) × (w .number ≡ r)
+
 -- the numbers whose refusal, whatever the job, leaves something behind in what was lent; in this edition there is none
 abbrev pub leavesSomething : ℕ → Bool
 leavesSomething r = false
 
--- a job refuses by its rows: by the lowest number that applies, and then it is as `refused` says, which answers 0 for all else
--- and holds every lent place as it was
-pub record Refuses {A : Type 0} (refusalOf : A → ℕ) (rows : List Row) (job : A) (refused : ℕ → A) : Type 0 where
-  pub lowest : Lowest rows (refusalOf job)
+-- a job refuses by its rows, by the `Lowest` or by the `First` that applies, and then it is as `refused` says, which answers 0 for all
+-- else and holds every lent place as it was
+pub record Refuses {A : Type 0} (Judged : List Row → ℕ → Type 0) (refusalOf : A → ℕ) (rows : List Row) (job : A) (refused : ℕ → A) : Type 0 where
+  pub number : Judged rows (refusalOf job)
   pub unchanged : 0 < refusalOf job → leavesSomething (refusalOf job) ≡ false → job ≡ refused (refusalOf job)
 
 -- ---- the rows that each job judges
@@ -51,6 +57,12 @@ abbrev pub inverseRows : ℕ → ℕ → List ℤ → List ℕ → List ℤ → 
 inverseRows k L numbers picture room =
     row 1 (sizeIn k) ∷ row 2 (levelsIn k L)
     ∷ row 3 (isSquare k (length numbers) && isSquare k (length picture) && isSquare k (length room)) ∷ row 4 (numbersIn numbers) ∷ []
+
+-- 13 is judged after 2 and before 3
+abbrev pub thumbnailRows : ℕ → ℕ → ℕ → List ℤ → List ℕ → List ℤ → List Row
+thumbnailRows k L r numbers picture room =
+    row 1 (sizeIn k) ∷ row 2 (levelsIn k L) ∷ row 13 (halvingsIn L r)
+    ∷ row 3 (isSquare k (length numbers) && isSquare (k - r) (length picture) && isSquare (k - r) (length room)) ∷ row 4 (numbersIn (take (4 ^ (k - r)) numbers)) ∷ []
 
 abbrev pub writingRows : ℕ → ℕ → ℕ → List ℕ → List ℕ → ℕ → List ℕ → List Row
 writingRows k L n label bytes b room =

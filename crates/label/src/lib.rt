@@ -1,14 +1,15 @@
-// The face of the library: the seven jobs of the paper, each once, with its complete contract.
+// The face of the library: the eight jobs of the paper, each once, with its complete contract.
 //
-// A grey picture goes in by forward, code and write, and comes out by read, decode and inverse; check judges one block.
-// Every call takes whatever it is given and ends. `refusal` is 0, or the lowest row of the refusal table that applies;
-// a refused call answers 0 for all else and changes nothing that it was lent.
+// A grey picture goes in by forward, code and write, and comes out by read, decode and inverse, or smaller by thumbnail;
+// check judges one block.
+// Every call takes whatever it is given and ends. `refusal` is 0, or the first row of the refusal table that applies, in the
+// order that the job names; a refused call answers 0 for all else and changes nothing that it was lent.
 //
 // A contract says that the answer and every lent slice at exit equal the job's definition in paper/specs/Jobs.antt at
 // the inputs, so it leaves nothing open (proofs/Settled.antt). The three demands are proofs/Demand1.antt, Demand2.antt
 // and Demand3.antt; docs/PROMISES.md follows them sentence by sentence.
 ghost use mathlib.Core.Path.{_≡_};
-ghost use Rattle.paper.specs.Jobs.{forwardJob, codingJob, decodingJob, inverseJob, writingJob, readingJob, checkJob};
+ghost use Rattle.paper.specs.Jobs.{forwardJob, codingJob, decodingJob, inverseJob, thumbnailJob, writingJob, readingJob, checkJob};
 use coding::Written;
 use decoding::Settled;
 use record::Blocks;
@@ -45,6 +46,21 @@ pub fn inverse(k: u32, levels: u32, numbers: &[i32], picture: &mut [u8], room: &
     ensures { λ r. ⌜ inverseJob k levels (now (numbers .entry)) (now (picture .entry)) (now (room .entry)) ≡ record { refusal = r; picture = now (picture .exit); room = now (room .exit) } ⌝ }
 {
     transform::inverse(k, levels, numbers, picture, room)
+}
+
+// Fills the picture with its side halved so many times, r, 1 to L, from the first (S / 2^r)² numbers alone; picture and room
+// have as many places. The working room ends as with inverse. Refusals 1, 2, 13 (r), 3, 4, judged in this order.
+pub fn thumbnail(
+    k: u32,
+    levels: u32,
+    halvings: u32,
+    numbers: &[i32],
+    picture: &mut [u8],
+    room: &mut [i32],
+) -> u32
+    ensures { λ r. ⌜ thumbnailJob k levels halvings (now (numbers .entry)) (now (picture .entry)) (now (room .entry)) ≡ record { refusal = r; picture = now (picture .exit); room = now (room .exit) } ⌝ }
+{
+    thumbnail::thumbnail(k, levels, halvings, numbers, picture, room)
 }
 
 // Writes the record of the first b bits at the front of the room, and gives its count of blocks; later bytes are

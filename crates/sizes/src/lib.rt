@@ -5,7 +5,7 @@ ghost use Prim.Native.Nat.{ℕ, _+_, _*_, _/_, _^_, _≤_, max};
 ghost use lib.Dec.{leb};
 ghost use lib.IntN.{natAbs};
 ghost use Rattle.integer_laws.specs.Order.{Within};
-ghost use Rattle.paper.specs.Sizes.{sizeIn, levelsIn, planesIn, numbersIn, numberLimit, mostPlanes, mostBits, greyLimit};
+ghost use Rattle.paper.specs.Sizes.{mostSize, sizeIn, levelsIn, planesIn, numbersIn, numberLimit, mostPlanes, mostBits, greyLimit};
 ghost use Rattle.paper.specs.Walk.{largest, bitsNeeded, planeCount};
 ghost use Rattle.paper.specs.Jobs.{sizesRefusal};
 
@@ -62,9 +62,9 @@ pub fn sizes_refusal(k: u32, levels: u32) -> u32
     if levels_in(k, levels) { 0 } else { 2 }
 }
 
-// S², the places of a picture.
+// S², the places of a picture; of a thumbnail too.
 pub fn area(k: u32) -> usize
-    requires { ⌜ sizeIn k ≡ true ⌝ }
+    requires { ⌜ k ≤ mostSize ⌝ }
     ensures { λ r. ⌜ r ≡ 4 ^ k ⌝ }
 {
     1usize << (2 * k)

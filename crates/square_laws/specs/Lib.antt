@@ -6,3 +6,4 @@ pub mod Near
 pub mod Range
 pub mod Numbers
 pub mod Picture
+pub mod Thumbnail

@@ -2,7 +2,7 @@
 use mathlib.Core.Path.{_≡_}
 use mathlib.Core.Bool.{true}
 use mathlib.Core.List.{List}
-use Prim.Native.Nat.{ℕ}
+use Prim.Native.Nat.{ℕ, _≤_}
 use native.Mathlib.Omega.{arith}
 use native.Mathlib.Nat.{pow-le-pow-right}
 use lib.Dec.{lit<}
@@ -23,9 +23,9 @@ picture-fits k L picture l B = record {
   small = omega (arith, pow-le-pow-right {n = 4} (lit< tt) {i = L} {j = mostLevels} (levels-few k L l));
 }
 
-pub numbers-fit : (k L : ℕ) (numbers : List ℤ) → levelsIn k L ≡ true → numbersIn numbers ≡ true → Fitting grown L numbers
-numbers-fit k L numbers l N = record {
+pub numbers-fit : (L : ℕ) (numbers : List ℤ) → L ≤ mostLevels → numbersIn numbers ≡ true → Fitting grown L numbers
+numbers-fit L numbers l N = record {
   most = numberLimit;
   each = in-each numbers N;
-  small = omega (arith, grown-most numberLimit L mostLevels (levels-few k L l));
+  small = omega (arith, grown-most numberLimit L mostLevels l);
 }

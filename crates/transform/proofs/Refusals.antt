@@ -7,11 +7,11 @@ use native.Mathlib.Omega.{arith}
 use lib.IntN.{ℤ}
 use lib.ListN.{length}
 use borrow.Author.Tests.{eqb-true}
-use Rattle.paper.specs.Sizes.{sizeIn, levelsIn, numbersIn, unless, judged}
+use Rattle.paper.specs.Sizes.{mostSize, mostLevels, sizeIn, levelsIn, numbersIn, unless, judged}
 use Rattle.paper.specs.Square.{numbersOf, greysOf, pictured}
 use Rattle.paper.specs.Walk.{planeCount}
 use Rattle.paper.specs.Jobs.{sizesRefusal, isSquare, forwardRefusal, forwardJob, inverseRefusal, inverseJob}
-use Rattle.sizes.proofs.Ranges.{both-first, both-second}
+use Rattle.sizes.proofs.Ranges.{both-first, both-second, size-high, levels-few, levels-less}
 use Rattle.sizes.proofs.Refusals.{row-passed, rows-left, size-accepted, levels-accepted, sizes-left, sizes-stand, sizes-leave, refused-is, done-is}
 
 -- ---- rows 1 and 2, as judged by `sizes_refusal`
@@ -59,44 +59,30 @@ module _ (k L : ℕ) (picture : List ℕ) (numbers : List ℤ) (r : ℕ) (e : r 
   unfolding forwardJob
   forward-done new n f g = job-done (forwardRefusal k L picture numbers) r _ _ e h ∙ rw (g, f)
 
+-- the lengths that row 3 asks for
+pub squares-are : (k j numbers picture room : ℕ) → (isSquare k numbers && isSquare j picture && isSquare j room) ≡ true → (numbers ≡ 4 ^ k) × (picture ≡ 4 ^ j) × (room ≡ 4 ^ j)
+squares-are k j numbers picture room e =
+    let first = both-first (isSquare k numbers && isSquare j picture) (isSquare j room) e in (
+      eqb-true numbers (4 ^ k) (both-first (isSquare k numbers) (isSquare j picture) first),
+      eqb-true picture (4 ^ j) (both-second (isSquare k numbers) (isSquare j picture) first),
+      eqb-true room (4 ^ j) (both-second (isSquare k numbers && isSquare j picture) (isSquare j room) e),
+    )
+
 module _ (k L : ℕ) (numbers : List ℤ) (picture : List ℕ) (room : List ℤ) (r : ℕ) (e : r ≡ inverseRefusal k L numbers picture room) (h : r ≤ 0) where
-  abbrev n : Bool
-  n = isSquare k (length numbers)
+  abbrev lengths : Bool
+  lengths = isSquare k (length numbers) && isSquare k (length picture) && isSquare k (length room)
 
-  abbrev p : Bool
-  p = isSquare k (length picture)
-
-  abbrev w : Bool
-  w = isSquare k (length room)
-
-  inverse-passed : (sizesRefusal k L (unless 3 (n && p && w) (unless 4 (numbersIn numbers) 0)) ≡ 0)
+  inverse-passed : sizesRefusal k L (unless 3 lengths (unless 4 (numbersIn numbers) 0)) ≡ 0
   unfolding inverseRefusal
   inverse-passed = let z : r ≡ 0 = omega arith in sym e ∙ z
 
-  rows : unless 3 (n && p && w) (unless 4 (numbersIn numbers) 0) ≡ 0
-  rows = sizes-left k L _ inverse-passed
+  pub inverse-accepted : (k ≤ mostSize) × ((L ≤ mostLevels) × ((L ≤ k) × ((length numbers ≡ 4 ^ k) × ((numbersIn numbers ≡ true) × ((length picture ≡ 4 ^ k) × (length room ≡ 4 ^ k))))))
+  inverse-accepted =
+      let l = levels-accepted k L _ inverse-passed in
+      let rows = sizes-left k L _ inverse-passed in
+      let s = squares-are k k (length numbers) (length picture) (length room) (row-passed 2 lengths _ rows) in
+      (size-high k (size-accepted k L _ inverse-passed), (levels-few k L l, (omega (arith, levels-less k L l), (s .0, (row-passed 3 (numbersIn numbers) 0 (rows-left 2 lengths _ rows), (s .1, s .2))))))
 
-  squares : (n && p && w) ≡ true
-  squares = row-passed 2 (n && p && w) _ rows
-
-  pub inverse-accepted : (sizeIn k ≡ true) × ((levelsIn k L ≡ true) × ((length numbers ≡ 4 ^ k) × ((numbersIn numbers ≡ true) × (length room ≡ 4 ^ k))))
-  inverse-accepted = (
-    size-accepted k L _ inverse-passed,
-    (
-      levels-accepted k L _ inverse-passed,
-      (
-        eqb-true (length numbers) (4 ^ k) (both-first n p (both-first (n && p) w squares)),
-        (
-          row-passed 3 (numbersIn numbers) 0 (rows-left 2 (n && p && w) _ rows),
-          eqb-true (length room) (4 ^ k) (both-second (n && p) w squares),
-        ),
-      ),
-    ),
-  )
-
-  pub picture-accepted : length picture ≡ 4 ^ k
-  picture-accepted = eqb-true (length picture) (4 ^ k) (both-second n p (both-first (n && p) w squares))
-
-  pub inverse-done : (seen : List ℕ) (greys : List ℤ) → greys ≡ greysOf k L numbers → seen ≡ pictured k greys → inverseJob k L numbers picture room ≡ record { refusal = 0; picture = seen; room = greys }
+  pub inverse-done : (seen : List ℕ) (greys : List ℤ) → seen ≡ pictured k (greysOf k L numbers) → greys ≡ greysOf k L numbers → inverseJob k L numbers picture room ≡ record { refusal = 0; picture = seen; room = greys }
   unfolding inverseJob
-  inverse-done seen greys f g = job-done (inverseRefusal k L numbers picture room) r _ _ e h ∙ rw (g, f)
+  inverse-done seen greys f g = job-done (inverseRefusal k L numbers picture room) r _ _ e h ∙ rw (f, g)

@@ -2,11 +2,12 @@
 // Both take whatever they are given: what is out of range is refused by its number and nothing lent is changed.
 ghost use mathlib.Core.Path.{_≡_};
 ghost use mathlib.Core.Bool.{true};
-ghost use Prim.Native.Nat.{_^_};
+ghost use mathlib.Core.Bool.{_&&_};
+ghost use Prim.Native.Nat.{_^_, _≤_};
 ghost use lib.ListN.{length};
-ghost use Rattle.paper.specs.Sizes.{sizeIn, levelsIn, numbersIn};
-ghost use Rattle.paper.specs.Square.{numbersOf, greysOf};
-ghost use Rattle.paper.specs.Jobs.{forwardRefusal, forwardJob, inverseRefusal, inverseJob};
+ghost use Rattle.paper.specs.Sizes.{mostSize, mostLevels, sizeIn, levelsIn, numbersIn};
+ghost use Rattle.paper.specs.Square.{numbersOf, greysOf, pictured};
+ghost use Rattle.paper.specs.Jobs.{isSquare, forwardRefusal, forwardJob, inverseRefusal, inverseJob};
 
 // What the job forward answers: why it refused, or 0, and the plane count n.
 #[repr(C)]
@@ -30,6 +31,22 @@ fn forward_refusal(k: u32, levels: u32, picture: &[u8], numbers: &[i32]) -> u32
     if numbers.len() != places { 3 } else { 0 }
 }
 
+// Numbers of a square of side 2^k, a picture and a room of one of side 2^j.
+pub fn squares(k: u32, j: u32, numbers: usize, picture: usize, room: usize) -> bool
+    requires { ⌜ k ≤ mostSize ⌝ }
+    requires { ⌜ j ≤ mostSize ⌝ }
+    ensures { λ r. ⌜ r ≡ (isSquare k numbers && isSquare j picture && isSquare j room) ⌝ }
+{
+    if numbers != sizes::area(k) {
+        return false;
+    }
+    let places = sizes::area(j);
+    if picture != places {
+        return false;
+    }
+    room == places
+}
+
 // Refusals 1, 2, 3 and 4, lowest first, or 0.
 fn inverse_refusal(k: u32, levels: u32, numbers: &[i32], picture: &[u8], room: &[i32]) -> u32
     ensures { λ r. ⌜ r ≡ inverseRefusal k levels (now (numbers .entry)) (now (picture .entry)) (now (room .entry)) ⌝ }
@@ -38,14 +55,7 @@ fn inverse_refusal(k: u32, levels: u32, numbers: &[i32], picture: &[u8], room: &
     if r > 0 {
         return r;
     }
-    let places = sizes::area(k);
-    if numbers.len() != places {
-        return 3;
-    }
-    if picture.len() != places {
-        return 3;
-    }
-    if room.len() != places {
+    if !squares(k, k, numbers.len(), picture.len(), room.len()) {
         return 3;
     }
     if sizes::numbers_in(numbers) { 0 } else { 4 }
@@ -64,10 +74,11 @@ fn to_numbers(k: u32, levels: u32, picture: &[u8], numbers: &mut [i32])
     levels::forward(k, levels, numbers);
 }
 
-// The greys of wavelet numbers, in Z order.
+// The greys of wavelet numbers, in Z order. Of a thumbnail too: its side may be smaller than a picture's, and no level be left.
 fn to_greys(k: u32, levels: u32, numbers: &[i32], room: &mut [i32])
-    requires { ⌜ sizeIn k ≡ true ⌝ }
-    requires { ⌜ levelsIn k levels ≡ true ⌝ }
+    requires { ⌜ k ≤ mostSize ⌝ }
+    requires { ⌜ levels ≤ mostLevels ⌝ }
+    requires { ⌜ levels ≤ k ⌝ }
     requires { ⌜ length (now numbers) ≡ 4 ^ k ⌝ }
     requires { ⌜ numbersIn (now numbers) ≡ true ⌝ }
     requires { ⌜ length (now room) ≡ 4 ^ k ⌝ }
@@ -76,6 +87,22 @@ fn to_greys(k: u32, levels: u32, numbers: &[i32], room: &mut [i32])
     picture::copy(numbers, room);
     levels::back(k, levels, room);
     picture::raise(room);
+}
+
+// The picture of wavelet numbers, and in the room its greys before they are set into 0 to 255.
+pub fn rebuild(k: u32, levels: u32, numbers: &[i32], picture: &mut [u8], room: &mut [i32])
+    requires { ⌜ k ≤ mostSize ⌝ }
+    requires { ⌜ levels ≤ mostLevels ⌝ }
+    requires { ⌜ levels ≤ k ⌝ }
+    requires { ⌜ length (now numbers) ≡ 4 ^ k ⌝ }
+    requires { ⌜ numbersIn (now numbers) ≡ true ⌝ }
+    requires { ⌜ length (now picture) ≡ 4 ^ k ⌝ }
+    requires { ⌜ length (now room) ≡ 4 ^ k ⌝ }
+    ensures { λ _. ⌜ now (picture .exit) ≡ pictured k (greysOf k levels (now (numbers .entry))) ⌝ }
+    ensures { λ _. ⌜ now (room .exit) ≡ greysOf k levels (now (numbers .entry)) ⌝ }
+{
+    to_greys(k, levels, numbers, room);
+    picture::set_picture(k, room, picture);
 }
 
 // Fills the wavelet numbers, gives n.
@@ -102,7 +129,6 @@ pub fn inverse(k: u32, levels: u32, numbers: &[i32], picture: &mut [u8], room: &
     if refusal > 0 {
         return refusal;
     }
-    to_greys(k, levels, numbers, room);
-    picture::set_picture(k, room, picture);
+    rebuild(k, levels, numbers, picture, room);
     0
 }

@@ -4,6 +4,7 @@ use mathlib.Core.Bool.{true, false}
 use native.Mathlib.Omega.{arith}
 use borrow.Author.Tests.{eq-eqb, ne-eqb}
 use borrow.Author.Needs.{needs}
+use Rattle.sizes.proofs.Ranges.{size-high}
 use Rattle.sizes.proofs.Refusals.{size-accepted}
 use Rattle.coding.proofs.Job.{sizes-row, later-rows}
 use Rattle.coding.proofs.coding_refusal.Tie as tie
@@ -18,7 +19,7 @@ returns c =
 
 area-requires : tie.Need-area-requires
 area-requires c κs =
-    let S = c .before .before in size-accepted (S .args .k) (S .args .levels) 0 (omega (arith, c .before .sizes-refusal .ensures, c .if1 .left))
+    let S = c .before .before in size-high _ (size-accepted (S .args .k) (S .args .levels) 0 (omega (arith, c .before .sizes-refusal .ensures, c .if1 .left)))
 
 returns-2 : tie.Need-returns-2
 returns-2 c =

@@ -2,6 +2,7 @@
 use mathlib.Core.Path.{_∙_, sym}
 use borrow.Author.Tests.{not-true, not-false}
 use borrow.Author.Needs.{needs}
+use Rattle.sizes.proofs.Ranges.{size-high}
 use Rattle.sizes.proofs.Refusals.{size-accepted}
 use Rattle.decoding.proofs.Judging.{none, sizes-refused, places-refused, planes-refused, bits-judged}
 use Rattle.decoding.proofs.refusal.Statement.{statement}
@@ -16,7 +17,7 @@ returns c =
 
 area-requires : tie.Need-area-requires
 area-requires c κs =
-    size-accepted _ _ 0 (none (c .before .sizes-refusal .ensures) (c .if1 .left))
+    size-high _ (size-accepted _ _ 0 (none (c .before .sizes-refusal .ensures) (c .if1 .left)))
 
 returns-2 : tie.Need-returns-2
 returns-2 c =

@@ -1,5 +1,4 @@
 use Rattle.sizes.proofs.Counts.{area-shifted}
-use Rattle.sizes.proofs.Ranges.{size-high}
 use native.Mathlib.Omega.{arith}
 use mathlib.Core.Path.{sym, _∙_}
 use borrow.Author.Needs.{needs}
@@ -7,16 +6,16 @@ use Rattle.sizes.proofs.area.Statement.{statement}
 use Rattle.sizes.proofs.area.Tie as tie
 
 mul-result : tie.Need-mul-result
-mul-result c = omega (arith, size-high _ (c .pre))
+mul-result c = omega arith
 
 cast-result : tie.Need-cast-result
 cast-result c = search needs
 
 shl-result : tie.Need-shl-result
-shl-result c = omega (arith, size-high _ (c .pre))
+shl-result c = omega arith
 
 returns : tie.Need-returns
-returns c = area-shifted _ (omega (arith, size-high _ (c .pre)))
+returns c = area-shifted _ (omega arith)
 
 pub area-spec : {M : Type 1} → statement M
 area-spec = tie.close (tie.spec mul-result cast-result shl-result returns)

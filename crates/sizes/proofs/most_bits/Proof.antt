@@ -1,6 +1,6 @@
 use Prim.Native.Nat.{_*_, _-_}
 use Rattle.sizes.proofs.Counts.{area-some, planes-times}
-use Rattle.sizes.proofs.Ranges.{area-most, planes-few}
+use Rattle.sizes.proofs.Ranges.{size-high, area-most, planes-few}
 use Rattle.paper.specs.Sizes.{mostBits}
 use native.Mathlib.Omega.{arith}
 use borrow.Author.Needs.{needs}
@@ -8,7 +8,7 @@ use Rattle.sizes.proofs.most_bits.Statement.{statement}
 use Rattle.sizes.proofs.most_bits.Tie as tie
 
 area-requires : tie.Need-area-requires
-area-requires c κs = search needs
+area-requires c κs = size-high _ (c .pre .0)
 
 mul-result : tie.Need-mul-result
 mul-result c = omega (arith, c .area .ensures, area-most _ (c .before .pre .0), area-some (c .before .args .k))

@@ -4,6 +4,7 @@ use Prim.Native.Nat.{_^_}
 use lib.ListN.{length}
 use borrow.Author.Tests.{eq-eqb, ne-eqb}
 use Rattle.paper.specs.Jobs.{forwardRefusal}
+use Rattle.sizes.proofs.Ranges.{size-high}
 use Rattle.transform.proofs.Refusals.{sizes-refused, sizes-right, size-right}
 use borrow.Author.Needs.{needs}
 use Rattle.transform.proofs.forward_refusal.Statement.{statement}
@@ -17,7 +18,7 @@ unfolding forwardRefusal
 returns c = let s = c .before in sizes-refused (s .before .before .args .k) (s .before .before .args .levels) _ _ (s .sizes-refusal .ensures) (c .if1 .taken)
 
 area-requires : tie.Need-area-requires
-area-requires c κs = let s = c .before in size-right (s .before .before .args .k) (s .before .before .args .levels) _ (s .sizes-refusal .ensures) (c .if1 .left)
+area-requires c κs = let s = c .before in size-high _ (size-right (s .before .before .args .k) (s .before .before .args .levels) _ (s .sizes-refusal .ensures) (c .if1 .left))
 
 returns-2 : tie.Need-returns-2
 unfolding forwardRefusal

@@ -1,0 +1,2 @@
+-- The laws of the job.
+pub mod Refusals
