@@ -13,6 +13,7 @@
  *         label_read       the longest run of good blocks, to bits
  *         label_decode     bits to numbers: what they settle, 0 elsewhere
  *         label_inverse    numbers to greys
+ *         label_thumbnail  the first of the numbers to fewer greys, the side halved r times
  *     One block:
  *         label_block_check
  *
@@ -35,30 +36,39 @@
  *
  *     What a cut picture is worth, with p planes unfinished: no wavelet number's magnitude is above the true
  *     one, none is short by more than 2^p - 1, none that isn't zero has the wrong sign, and no grey is off by
- *     more than (7L + 1)(2^p - 1). With p = 0 it is the very picture. All this is of the blocks of one
- *     coding: blocks of two shots under one label, with the same k, L and n, splice unnoticed in edition 1.
- *     The mount number of edition 2, to come, closes that.
+ *     more than (7L + 1)(2^p - 1). With p = 0 it is the very picture.
+ *
+ *     A thumbnail is the picture at side S/2^r, r from 1 to L, made of the first (S/2^r)^2 numbers alone: the
+ *     inverse stops r levels early, and at r = L it is the smallest band plus 128. With p = 0 it is the low
+ *     band that r levels leave of the picture, plus 128 and set into 0 to 255; else no grey is further from
+ *     that than (7(L - r) + 1)(2^p - 1).
+ *
+ *     All this is of the blocks of one coding: blocks of two shots under one label, with the same k, L and n,
+ *     splice unnoticed in edition 1. The mount number of edition 2, to come, closes that.
  *
  *     Was a coding cut by what label_code was lent? Not if `bits` is below both `limit` and 8 x bytes_count.
  *     If it equals one of them, label_decode tells: of these bits, `unfinished` is 0 exactly if they are all.
  *     With LABEL_MOST_BYTES(k, n) bytes and a limit of SIZE_MAX nothing is ever cut.
  *
  * REFUSALS
- *     `refusal` is 0, LABEL_OK, or the lowest of these that applies. A refused call answers 0 for all else
- *     and changes no byte and no number that it was lent.
- *      1  LABEL_BAD_SIDE    k not in 3..8
- *      2  LABEL_BAD_LEVELS  L not in its range
- *      3  LABEL_BAD_LENGTH  picture, number or working slice not S x S long
- *      4  LABEL_BAD_NUMBER  a number beyond +-262143
- *      5  LABEL_BAD_PLANES  n above 18
- *      6  LABEL_BAD_ROOM    b beyond the bytes lent; label_write: b beyond what n planes can have, or room
- *                           under 512 bytes a block; label_read: under 512 bytes, or room under 492 for each
- *                           whole block lent; label_block_check: not 512 bytes
- *      7  LABEL_BAD_LABEL   the label given is not eight characters, 0-9 or A-Z
- *      8  LABEL_BAD_CHECK   a block's check A or B is wrong: it is damaged
- *      9  LABEL_BAD_FIELD   a block's edition, k, L, n, label, payload count or an unused bit is wrong
- *     10  LABEL_BAD_TURN    a block's number is out of turn, its bytes 0 to 11 are unlike block 0's, or its
- *                           label is unlike the one expected
+ *     `refusal` is 0, LABEL_OK, or the lowest of these that applies; but 13, which label_thumbnail alone has,
+ *     is judged after 2 and before 3. A refused call answers 0 for all else and changes no byte and no number
+ *     that it was lent. There is no 11 and no 12 yet.
+ *      1  LABEL_BAD_SIDE      k not in 3..8
+ *      2  LABEL_BAD_LEVELS    L not in its range
+ *      3  LABEL_BAD_LENGTH    picture, number or working slice not S x S long; label_thumbnail: numbers not
+ *                             that, picture or working slice not (S/2^r)^2 long
+ *      4  LABEL_BAD_NUMBER    a number beyond +-262143; label_thumbnail: one of the first (S/2^r)^2
+ *      5  LABEL_BAD_PLANES    n above 18
+ *      6  LABEL_BAD_ROOM      b beyond the bytes lent; label_write: b beyond what n planes can have, or room
+ *                             under 512 bytes a block; label_read: under 512 bytes, or room under 492 for
+ *                             each whole block lent; label_block_check: not 512 bytes
+ *      7  LABEL_BAD_LABEL     the label given is not eight characters, 0-9 or A-Z
+ *      8  LABEL_BAD_CHECK     a block's check A or B is wrong: it is damaged
+ *      9  LABEL_BAD_FIELD     a block's edition, k, L, n, label, payload count or an unused bit is wrong
+ *     10  LABEL_BAD_TURN      a block's number is out of turn, its bytes 0 to 11 are unlike block 0's, or its
+ *                             label is unlike the one expected
+ *     13  LABEL_BAD_HALVINGS  r not in 1..L
  *
  * EXAMPLE
  *     #include <stdio.h>
@@ -118,9 +128,9 @@ extern "C" {
 #endif
 
 #define LABEL_VERSION_MAJOR 0
-#define LABEL_VERSION_MINOR 3
+#define LABEL_VERSION_MINOR 4
 #define LABEL_VERSION_PATCH 0
-#define LABEL_VERSION "0.3.0"
+#define LABEL_VERSION "0.4.0"
 
 #define LABEL_BLOCK_BYTES 512
 #define LABEL_PAYLOAD_BYTES 492
@@ -130,8 +140,9 @@ extern "C" {
 #define LABEL_STACK_BYTES 4096 /* measured, rounded up; a call's arguments, memcpy and memset are in it */
 
 /* Sizes of what a caller lends, for k from 3 to 8 and n from 0 to 18: constants where k and n are, so that
-   arrays can have them. No coding of n planes has more than n(4S^2 - 1)/3 + S^2 bits. label_write needs 512
-   bytes of room for each block, label_read 492 for each whole block that it is lent. */
+   arrays can have them. A thumbnail has LABEL_PLACES(k - r) greys. No coding of n planes has more than
+   n(4S^2 - 1)/3 + S^2 bits. label_write needs 512 bytes of room for each block, label_read 492 for each
+   whole block that it is lent. */
 #define LABEL_PLACES(k) ((size_t)1 << (2 * (k)))
 #define LABEL_MOST_LEVELS(k) ((k) < 6 ? (k) - 1 : 5)
 #define LABEL_MOST_BITS(k, n) ((size_t)(n) * ((4 * LABEL_PLACES(k) - 1) / 3) + LABEL_PLACES(k))
@@ -149,7 +160,8 @@ enum label_refusal {
     LABEL_BAD_LABEL = 7,
     LABEL_BAD_CHECK = 8,
     LABEL_BAD_FIELD = 9,
-    LABEL_BAD_TURN = 10
+    LABEL_BAD_TURN = 10,
+    LABEL_BAD_HALVINGS = 13
 };
 
 /* Fills `numbers` and gives n, the planes that they need. Refusals 1, 2, 3. */
@@ -178,6 +190,14 @@ uint32_t label_inverse(uint32_t k, uint32_t levels,
                        const int32_t *numbers, size_t numbers_count,
                        uint8_t *picture, size_t picture_count,
                        int32_t *room, size_t room_count);
+
+/* Fills the thumbnail, r being `halvings`, from the first LABEL_PLACES(k - r) of all S x S numbers; `picture`
+   and `room` have that many places. `room` ends with its greys before they are set into 0 to 255, in Z order.
+   Gives the refusal, judged in this order: 1, 2, 13, 3, 4; 0 if none. */
+uint32_t label_thumbnail(uint32_t k, uint32_t levels, uint32_t halvings,
+                         const int32_t *numbers, size_t numbers_count,
+                         uint8_t *picture, size_t picture_count,
+                         int32_t *room, size_t room_count);
 
 /* Writes the record of the first b bits at the front of `room`; gives its count of blocks.
    Refusals 1, 2, 5, 6, 7. */

@@ -2,7 +2,8 @@
  * The sizes that label.h gives, held to a plain count and to the library: sizes [LARGEST_K]. At every k and n the most
  * bits, bytes and blocks are counted here once more, from what a walk can ask at most, and label_write takes that much
  * and refuses more. Numbers that need n planes, by chance and as bad as can be, are coded within these sizes, and
- * label.h's rule for a coding that was cut tells the truth; at every number of bits where there are few.
+ * label.h's rule for a coding that was cut tells the truth; at every number of bits where there are few. A thumbnail is
+ * made in the places that label.h says, and not in one more or fewer.
  */
 #include <stdio.h>
 #include <stdlib.h>
@@ -165,6 +166,43 @@ static void code(unsigned k, unsigned levels, unsigned n, int flat)
     }
 }
 
+/* What label_thumbnail answers, lent exactly so many numbers, greys and places to work in. */
+static uint32_t thumbnail(unsigned k, unsigned levels, unsigned r, size_t given, size_t greys, size_t work)
+{
+    int32_t *lent = (int32_t *)(void *)lend(given * sizeof *lent), *room = (int32_t *)(void *)lend(work * sizeof *room);
+    uint8_t *picture = lend(greys);
+    uint32_t refusal;
+
+    memset(lent, 0, given * sizeof *lent);
+    refusal = label_thumbnail(k, levels, r, lent, given, picture, greys, room, work);
+    free(picture);
+    free(room);
+    free(lent);
+    return refusal;
+}
+
+/* A thumbnail takes LABEL_PLACES(k - r) places of picture and of room, and S x S numbers, and no other count. */
+static void thumbnails(unsigned k, unsigned levels)
+{
+    size_t all = LABEL_PLACES(k);
+
+    for (unsigned r = 1; r <= levels; r++) {
+        size_t side = ((size_t)1 << k) >> r, few = LABEL_PLACES(k - r);
+
+        hold(few == side * side, "the places of a thumbnail, n being r", k, levels, r);
+        hold(thumbnail(k, levels, r, all, few, few) == LABEL_OK, "a thumbnail, n being r", k, levels, r);
+        hold(thumbnail(k, levels, r, all - 1, few, few) == LABEL_BAD_LENGTH
+             && thumbnail(k, levels, r, all + 1, few, few) == LABEL_BAD_LENGTH
+             && thumbnail(k, levels, r, few, few, few) == LABEL_BAD_LENGTH
+             && thumbnail(k, levels, r, all, few - 1, few) == LABEL_BAD_LENGTH
+             && thumbnail(k, levels, r, all, few + 1, few) == LABEL_BAD_LENGTH
+             && thumbnail(k, levels, r, all, few, few - 1) == LABEL_BAD_LENGTH
+             && thumbnail(k, levels, r, all, few, few + 1) == LABEL_BAD_LENGTH
+             && thumbnail(k, levels, r, all, all, all) == LABEL_BAD_LENGTH,
+             "a thumbnail in other places, n being r", k, levels, r);
+    }
+}
+
 int main(int argc, char **argv)
 {
     unsigned largest = argc > 1 ? (unsigned)atoi(argv[1]) : 8;
@@ -183,6 +221,8 @@ int main(int argc, char **argv)
                 }
             }
         }
+        for (unsigned levels = 1; levels <= most; levels++)
+            thumbnails(k, levels);
         hold(label_code(k, most + 1, numbers, LABEL_PLACES(k), 0, record, 0).refusal == LABEL_BAD_LEVELS,
              "LABEL_MOST_LEVELS", k, most, 0);
         printf("most at side %u: %u levels, %zu bits, %zu bytes, blocks: %zu\n", 1u << k, most,

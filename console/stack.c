@@ -29,7 +29,7 @@ static uint8_t *stack, *view;
 static uint8_t picture[LABEL_PLACES(MOST_K)], bytes[ROOM * LABEL_PAYLOAD_BYTES], record[ROOM * LABEL_BLOCK_BYTES];
 static int32_t numbers[LABEL_PLACES(MOST_K)], room[LABEL_PLACES(MOST_K)];
 static const uint8_t label[8] = {'0', '0', '0', '0', '0', '4', '1', '7'};
-static uint32_t k, levels, n, refusal;
+static uint32_t k, levels, halvings, n, refusal;
 static size_t places, bits, blocks;
 
 static void forward(void)
@@ -57,6 +57,12 @@ static void inverse(void)
     refusal = label_inverse(k, levels, numbers, places, picture, places, room, places);
 }
 
+static void thumbnail(void)
+{
+    size_t few = LABEL_PLACES(k - halvings);
+    refusal = label_thumbnail(k, levels, halvings, numbers, places, picture, few, room, few);
+}
+
 static void write_record(void)
 {
     struct label_blocks made = label_write(k, levels, n, label, sizeof label, bytes, sizeof bytes, bits,
@@ -77,10 +83,10 @@ static void block_check(void)
 
 static struct { const char *name; void (*call)(void); size_t most; } calls[] = {
     {"label_forward", forward, 0}, {"label_code", code, 0}, {"label_decode", decode, 0},
-    {"label_inverse", inverse, 0}, {"label_write", write_record, 0}, {"label_read", read_record, 0},
-    {"label_block_check", block_check, 0},
+    {"label_inverse", inverse, 0}, {"label_thumbnail", thumbnail, 0}, {"label_write", write_record, 0},
+    {"label_read", read_record, 0}, {"label_block_check", block_check, 0},
 };
-enum { FORWARD, CODE, DECODE, INVERSE, WRITE, READ, CHECK, CALLS };
+enum { FORWARD, CODE, DECODE, INVERSE, THUMBNAIL, WRITE, READ, CHECK, CALLS };
 
 static void fail(const char *what)
 {
@@ -153,6 +159,8 @@ static void tour(int kind)
     measure(READ);
     measure(DECODE);
     measure(INVERSE);
+    for (halvings = 1; halvings <= levels; halvings++)
+        measure(THUMBNAIL);
 }
 
 int main(int argc, char **argv)

@@ -1,5 +1,5 @@
-/* A picture's whole journey through the archive, from C: into a record, and out of it whole and cut, at every size up to
-   the largest k given: tour [LARGEST_K]. */
+/* A picture's whole journey through the archive, from C: into a record, and out of it whole and cut, with every thumbnail,
+   at every size up to the largest k given: tour [LARGEST_K]. */
 #include <stdio.h>
 #include <stdlib.h>
 
@@ -9,7 +9,7 @@ enum { MOST_K = 8, PLACES = LABEL_PLACES(MOST_K), BLOCKS = LABEL_MOST_BLOCKS(MOS
 
 static uint8_t picture[PLACES], shown[PLACES], bytes[LABEL_MOST_BYTES(MOST_K, LABEL_MOST_PLANES)];
 static uint8_t record[BLOCKS * LABEL_BLOCK_BYTES], payload[BLOCKS * LABEL_PAYLOAD_BYTES];
-static int32_t numbers[PLACES], room[PLACES];
+static int32_t numbers[PLACES], room[PLACES], low[PLACES];
 static const uint8_t label[8] = {'0', '0', '0', '0', '0', '4', '1', '7'};
 
 /* A ramp with a bar across it. */
@@ -20,20 +20,55 @@ static void draw(size_t side)
             picture[row * side + column] = (uint8_t)(column % 8 < 2 ? 255 - row * 200 / side : column * 255 / (side - 1));
 }
 
-/* What the first blocks of the record show: the planes unfinished, and the largest error against the promised one. */
+static void refused(void)
+{
+    printf("refused\n");
+    exit(1);
+}
+
+/* The Z place of a row and a column. */
+static size_t z_place(size_t row, size_t column)
+{
+    size_t z = 0;
+
+    for (unsigned bit = 0; bit < MOST_K; bit++)
+        z |= (column >> bit & 1) << 2 * bit | (row >> bit & 1) << (2 * bit + 1);
+    return z;
+}
+
+/* How far a thumbnail of the numbers is off at most, from the low band that as many levels leave of the picture. */
+static unsigned long thumbnail_off(uint32_t k, uint32_t levels, uint32_t halvings)
+{
+    size_t places = LABEL_PLACES(k), few = LABEL_PLACES(k - halvings), side = (size_t)1 << (k - halvings);
+    unsigned long largest = 0;
+
+    if (label_forward(k, halvings, picture, places, low, places).refusal
+        || label_thumbnail(k, levels, halvings, numbers, places, shown, few, room, few))
+        refused();
+    for (size_t row = 0; row < side; row++)
+        for (size_t column = 0; column < side; column++) {
+            int32_t grey = low[z_place(row, column)] + 128, set = grey < 0 ? 0 : grey > 255 ? 255 : grey;
+            unsigned long off = (unsigned long)abs(shown[row * side + column] - set);
+            if (off > largest)
+                largest = off;
+        }
+    return largest;
+}
+
+/* What the first blocks of the record show: the planes unfinished, and the largest error against the promised one; then
+   of each thumbnail. */
 static void out(uint32_t k, size_t places, size_t blocks)
 {
     struct label_kept kept;
     struct label_settled settled;
     unsigned long largest = 0, promised;
+    int worse = 0;
 
     kept = label_read(record, blocks * LABEL_BLOCK_BYTES, label, sizeof label, payload, sizeof payload);
     settled = label_decode(kept.k, kept.levels, kept.n, numbers, places, payload, sizeof payload, kept.bits);
     if (kept.refusal || settled.refusal || kept.k != k
-        || label_inverse(kept.k, kept.levels, numbers, places, shown, places, room, places)) {
-        printf("refused\n");
-        exit(1);
-    }
+        || label_inverse(kept.k, kept.levels, numbers, places, shown, places, room, places))
+        refused();
     for (size_t place = 0; place < places; place++) {
         unsigned long off = (unsigned long)abs(picture[place] - shown[place]);
         if (off > largest)
@@ -42,6 +77,10 @@ static void out(uint32_t k, size_t places, size_t blocks)
     promised = (7ul * kept.levels + 1) * ((1ul << settled.unfinished) - 1);
     printf("  %zu of its blocks: %zu bits, %u planes unfinished, %s\n", kept.blocks, kept.bits, (unsigned)settled.unfinished,
            largest > promised ? "WORSE THAN PROMISED" : settled.unfinished == 0 ? "the very picture" : "as good as promised");
+    for (uint32_t r = 1; r <= kept.levels; r++)
+        worse |= thumbnail_off(k, kept.levels, r) > (7ul * (kept.levels - r) + 1) * ((1ul << settled.unfinished) - 1);
+    printf("    thumbnails, sides %u to %u: %s\n", 1u << (k - 1), 1u << (k - kept.levels),
+           worse ? "WORSE THAN PROMISED" : settled.unfinished == 0 ? "the low bands of the picture" : "as good as promised");
 }
 
 int main(int argc, char **argv)
@@ -60,10 +99,8 @@ int main(int argc, char **argv)
         written = label_code(k, levels, numbers, places, SIZE_MAX, bytes, sizeof bytes);
         blocks = label_write(k, levels, written.n, label, sizeof label, bytes, sizeof bytes, written.bits,
                              record, sizeof record);
-        if (planes.refusal || written.refusal || blocks.refusal || planes.n != written.n) {
-            printf("refused\n");
-            return 1;
-        }
+        if (planes.refusal || written.refusal || blocks.refusal || planes.n != written.n)
+            refused();
         printf("side %u, %u levels: %u planes, %zu bits, %zu %s\n", 1u << k, (unsigned)levels, (unsigned)planes.n,
                written.bits, blocks.blocks, blocks.blocks == 1 ? "block" : "blocks");
         out(k, places, blocks.blocks);

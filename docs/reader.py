@@ -1,10 +1,11 @@
 """Opens a record of a cartridge label, whole or cut, and says what it is worth.
 
-usage: python3 reader.py LABEL RECORD PICTURE
+usage: python3 reader.py LABEL RECORD PICTURE [R]
 
 LABEL is eight characters, 0-9 or A-Z, leading zeros counted, RECORD the file of
 the record, PICTURE a new file for the picture (binary PGM). The first word said
 is WHOLE or CUT (status 0) or REFUSED (status 1, no picture); wrong usage: 2.
+R, from 1 to L, asks for a thumbnail: side halved R times, L - R in the promise.
 
 A record is a grey picture of side 8 to 256 in a run of 512-byte blocks. Bits of
 its wavelet numbers stand there, the most significant first. So the blocks that
@@ -72,17 +73,17 @@ def undo_line(x, at):
     for i in range(h): x[even[i]] = low[i] - (high[max(i - 1, 0)] + high[i] + 2) // 4
     for i in range(h): x[odd[i]] = high[i] + (x[even[i]] + x[even[min(i + 1, h - 1)]]) // 2
 
-def greys(x, k, L):
-    """From wavelet numbers to greys. z has a row's or column's bits two apart, as a Z place has."""
-    z = [sum((i >> j & 1) << 2 * j for j in range(k)) for i in range(2 ** k)]
-    for level in range(L, 0, -1):
+def greys(x, k, L, r):
+    """From wavelet numbers to greys, r halvings short. z has bits two apart, as a Z place has."""
+    z = [sum((i >> j & 1) << 2 * j for j in range(k)) for i in range(2 ** (k - r))]
+    for level in range(L, r, -1):
         square = z[:2 ** k // 2 ** (level - 1)]
         for column in square: undo_line(x, [2 * row + column for row in square])
         for row in square: undo_line(x, [2 * row + column for column in square])
     return bytes([max(0, min(255, x[2 * row + column] + 128)) for row in z for column in z])
 
-def opened(label, record):
-    """What is said of a record, and its picture: none if it is refused."""
+def opened(label, record, R=''):
+    """What is said of a record, and its picture, the side halved R times: none if it is refused."""
     short = 'REFUSED: no whole block came, only %d of 512 bytes (6)' % len(record)
     no_label = 'REFUSED: a label is eight characters, 0-9 or A-Z; leading zeros count (7)'
     if len(record) < 512: return [short], b''
@@ -90,27 +91,33 @@ def opened(label, record):
     bits, kept, bad = blocks_kept(record, label)
     if kept == 0: return ['REFUSED %s: block 0 is %s' % (label, bad[0])] + bad[1:], b''
     k, L, n = record[1], record[2], record[3]
+    if R and R.lstrip('0') not in list('12345'[:L]):
+        return ['REFUSED %s: R goes from 1 to %d, the levels of this record (13)' % (label, L)], b''
     numbers, p = wavelet_numbers(bits, k, L, n)
-    limit, s = min(255, (7 * L + 1) * (2 ** p - 1)), 's' if kept > 1 else ''
+    S, r, s, what = 2 ** k, int(R[-1:] or 0), 's' * (kept > 1), 'thumbnail' if R else 'picture'
+    side, limit = S // 2 ** r, min(255, (7 * (L - r) + 1) * (2 ** p - 1))
     verdict, worth = 'CUT', 'no grey is off by more than %d of 255' % limit
     if limit == 255: worth = 'any grey may be wrong: too little is left to promise more'
-    if p == 0: verdict, worth = 'WHOLE', 'every grey is right: the very picture'
+    if p == 0: verdict, worth = 'WHOLE', 'every grey is right: the very ' + what
     more = 'more' if p > 0 and len(bits) == 3936 * kept else 'no more'
-    said = ['%s %s, side %d: %d block%s, %s expected' % (verdict, label, 2 ** k, kept, s, more),
+    size = 'thumbnail, side %d of %d' % (side, S) if R else 'side %d' % S
+    said = ['%s %s, %s: %d block%s, %s expected' % (verdict, label, size, kept, s, more),
             '  ' + worth + (', if its blocks are of one shot' if kept > 1 and limit < 255 else ''),
             '  planes finished: %d of %d, levels: %d, bits: %d' % (n - p, n, L, len(bits))]
     if bad: said += ['  block %d ended the run: it is %s' % (kept, bad[0])] + bad[1:]
-    header = 'P5\n# %s %s, p = %d, no grey off by more than %d of 255%s\n%d %d\n255\n' % (
-        label, verdict, p, limit, ', if of one shot' if kept > 1 else '', 2 ** k, 2 ** k)
-    return said, header.encode() + greys(numbers, k, L)
+    header = 'P5\n# %s %s, p = %d,%s no grey off by more than %d of 255%s\n%d %d\n255\n' % (
+        label, verdict, p, ' thumbnail of side %d,' % S if R else '', limit,
+        ', if of one shot' if kept > 1 else '', side, side)
+    return said, header.encode() + greys(numbers, k, L, r)
 
 if __name__ == '__main__':
     given, text = sys.argv[1:], __doc__.strip()
-    if given == ['--version']: sys.exit(print('reader.py 0.3.0, edition 1'))
+    if given == ['--version']: sys.exit(print('reader.py 0.4.0, edition 1'))
     if given == ['--help']: sys.exit(print(text))
-    if len(given) != 3 or given[0][:1] == '-': sys.exit(print(text, file=sys.stderr) or 2)
+    wrong = len(given) not in (3, 4) or not all(os.fsencode(R).isdigit() for R in given[3:])
+    if wrong or given[0][:1] == '-': sys.exit(print(text, file=sys.stderr) or 2)
     try:
-        with open(given[1], 'rb') as file: said, picture = opened(given[0], file.read())
+        with open(given[1], 'rb') as file: said, picture = opened(given[0], file.read(), *given[3:])
         if picture:
             file = open(given[2], 'xb')  # a file that is there already is left alone
             try:

@@ -194,7 +194,7 @@ fn run(line: &mut [u8]) -> usize {
         return 0;
     }
     if fields::same_bytes(&label[..count], b"--version") {
-        pipes::write_all(STDOUT_FILENO, b"decode 0.3.0\n");
+        pipes::write_all(STDOUT_FILENO, b"decode 0.4.0\n");
         return 0;
     }
     if fields::same_bytes(&label[..count], b"--thumbnail") {

@@ -178,7 +178,7 @@ fn run(line: &mut [u8]) -> usize {
         return 0;
     }
     if fields::same_bytes(&word[..count], b"--version") {
-        pipes::write_all(STDOUT_FILENO, b"encode 0.3.0\n");
+        pipes::write_all(STDOUT_FILENO, b"encode 0.4.0\n");
         return 0;
     }
     let given = os::arg_count();

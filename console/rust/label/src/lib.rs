@@ -3,7 +3,8 @@
 //! A picture has S x S greys of one byte, S = 2^k, k from 3 to 8, row by row. [`forward`] makes wavelet numbers of
 //! them, [`code`] makes bits of the numbers, the most significant plane first, and [`write()`] makes 512-byte blocks of
 //! the bits: the record. A record may be cut anywhere. [`read`] takes its longest run of good blocks, [`decode`] what
-//! their bits settle, and [`inverse`] makes greys of that. [`check`] judges one block by itself.
+//! their bits settle, and [`inverse`] makes greys of that, or [`thumbnail`] those of a smaller picture. [`check`] judges
+//! one block by itself.
 //!
 //! The S x S numbers stand in Z order: the place of row r, column c has the bits of r and c by turns, the lowest bit of
 //! c lowest. The levels, L, go from 1 to the smaller of 5 and k - 1; the bit planes, n, from 0 to 18. A label is eight
@@ -42,7 +43,7 @@
 //! ```
 //!
 //! # What a call does
-//! Every call takes whatever it is given and ends. What it can't do it refuses, for the lowest reason that applies (see
+//! Every call takes whatever it is given and ends. What it can't do it refuses, for the first reason that applies (see
 //! [`Refusal`]), and then it has changed nothing that it was lent. Nothing is allocated and nothing is kept between
 //! calls. That the code of the archive does its jobs is proved, for every input; that this package declares what the
 //! archive exports is not, and is tried by its tests.
@@ -50,8 +51,10 @@
 //! # What a cut picture is worth
 //! With p planes unfinished no wavelet number's magnitude is above the true one, none is short by more than 2^p - 1,
 //! none that isn't zero has the wrong sign, and no grey is off by more than [`grey_limit`]. With p = 0 it is the very
-//! picture. All that is about bits of one coding: blocks of two shots under one label with the same k, L and n fit
-//! together unnoticed, and what they show was never shot.
+//! picture. A thumbnail of r halvings is, with p = 0, the low band that r levels leave of the picture, plus 128 and set
+//! into 0 to 255; else no grey is further from that than `grey_limit(levels - halvings, unfinished)`. All that is about
+//! bits of one coding: blocks of two shots under one label with the same k, L and n fit together unnoticed, and what they
+//! show was never shot.
 //!
 //! # Linking
 //! The archive is x86-64 code for ELF, as on Linux, and calls `memcpy` and `memset`, nothing else. `build.rs` looks for
@@ -76,6 +79,7 @@ mod sizes;
 
 pub use refusal::Refusal;
 pub use sizes::{blocks, grey_limit, most_bits, most_blocks, most_bytes, most_levels, places, side};
+pub use sizes::{thumbnail_places, thumbnail_side};
 pub use sizes::{
     BLOCK_BYTES, LABEL_BYTES, LEAST_K, MOST_K, MOST_LEVELS, MOST_PLANES, NUMBER_LIMIT, PAYLOAD_BITS, PAYLOAD_BYTES,
 };
@@ -182,6 +186,37 @@ pub fn decode(k: u32, levels: u32, n: u32, numbers: &mut [i32], bytes: &[u8], b:
 /// ```
 pub fn inverse(k: u32, levels: u32, numbers: &[i32], picture: &mut [u8], room: &mut [i32]) -> Result<(), Refusal> {
     refusal::judged(raw::inverse(k, levels, numbers, picture, room), ())
+}
+
+/// Wavelet numbers to the greys of a thumbnail, the side halved `halvings` times, from 1 to `levels`: fills the picture.
+///
+/// `numbers` are all S x S, of which the first [`thumbnail_places`] are used; `picture` and `room` are that long. `room`
+/// ends with the greys before they are set into 0 to 255, in Z order. No grey is off by more than
+/// [`grey_limit`]`(levels - halvings, unfinished)` from the low band that so many levels leave of the picture.
+///
+/// # Errors
+/// In this order: [`Side`](Refusal::Side), [`Levels`](Refusal::Levels), [`Halvings`](Refusal::Halvings),
+/// [`Length`](Refusal::Length), [`Number`](Refusal::Number).
+///
+/// ```
+/// let mut numbers = [0; 64];
+/// numbers[0] = 5;
+/// let (mut picture, mut room) = ([0; label::thumbnail_places(3, 1)], [0; label::thumbnail_places(3, 1)]);
+/// label::thumbnail(3, 2, 1, &numbers, &mut picture, &mut room).unwrap();
+/// assert_eq!(picture[..8], [133, 130, 128, 128, 130, 129, 128, 128]); // two of its four rows
+/// label::thumbnail(3, 2, 2, &numbers, &mut picture[..4], &mut room[..4]).unwrap();
+/// assert_eq!(picture[..4], [133, 128, 128, 128]);
+/// assert_eq!(label::thumbnail(3, 2, 3, &numbers, &mut [], &mut []), Err(label::Refusal::Halvings));
+/// ```
+pub fn thumbnail(
+    k: u32,
+    levels: u32,
+    halvings: u32,
+    numbers: &[i32],
+    picture: &mut [u8],
+    room: &mut [i32],
+) -> Result<(), Refusal> {
+    refusal::judged(raw::thumbnail(k, levels, halvings, numbers, picture, room), ())
 }
 
 /// Bits to blocks: writes the record of the first `b` bits at the front of `room`, and gives its count of blocks.

@@ -1,4 +1,4 @@
-//! The seven calls with the plain answers of `label.h`: a refusal's number beside the rest, which is 0 where that
+//! The eight calls with the plain answers of `label.h`: a refusal's number beside the rest, which is 0 where that
 //! number is not.
 //!
 //! The calls of the package itself say the same as a [`Result`]; these are for a caller that compares answers field by
@@ -83,7 +83,7 @@ impl Planes {
     /// The refusal, where its number is not 0.
     ///
     /// # Panics
-    /// If `refusal` is above 10, which no answer of the archive has. So do the others.
+    /// If `refusal` is a number that no [`Refusal`] has, and no answer of the archive. So do the others.
     pub const fn result(self) -> Result<u32, Refusal> {
         judged(self.refusal, self.n)
     }
@@ -191,6 +191,17 @@ mod archive {
             room: *mut i32,
             room_count: usize,
         ) -> u32;
+        pub(super) fn label_thumbnail(
+            k: u32,
+            levels: u32,
+            halvings: u32,
+            numbers: *const i32,
+            numbers_count: usize,
+            picture: *mut u8,
+            picture_count: usize,
+            room: *mut i32,
+            room_count: usize,
+        ) -> u32;
         pub(super) fn label_write(
             k: u32,
             levels: u32,
@@ -275,6 +286,26 @@ pub fn inverse(k: u32, levels: u32, numbers: &[i32], picture: &mut [u8], room: &
         archive::label_inverse(
             k,
             levels,
+            numbers.as_ptr(),
+            numbers.len(),
+            picture.as_mut_ptr(),
+            picture.len(),
+            room.as_mut_ptr(),
+            room.len(),
+        )
+    }
+}
+
+/// Numbers to a thumbnail's greys: see [`thumbnail`](crate::thumbnail). Gives the refusal's number, judged in the order
+/// 1, 2, 13, 3, 4; 0 if none.
+#[must_use]
+pub fn thumbnail(k: u32, levels: u32, halvings: u32, numbers: &[i32], picture: &mut [u8], room: &mut [i32]) -> u32 {
+    // SAFETY: as above
+    unsafe {
+        archive::label_thumbnail(
+            k,
+            levels,
+            halvings,
             numbers.as_ptr(),
             numbers.len(),
             picture.as_mut_ptr(),

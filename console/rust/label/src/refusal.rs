@@ -3,7 +3,8 @@
 use core::error::Error;
 use core::fmt;
 
-/// Why a call was refused: the lowest of these that applies.
+/// Why a call was refused: the lowest of these that applies; but 13, which [`thumbnail`](crate::thumbnail) alone has, is
+/// judged after 2 and before 3.
 ///
 /// A refused call has changed no byte and no number that it was lent. The numbers are those of the record's paper, and
 /// of `label.h`:
@@ -23,9 +24,10 @@ pub enum Refusal {
     Side = 1,
     /// 2: the levels are not in 1 to [`most_levels`](crate::most_levels).
     Levels = 2,
-    /// 3: a slice of greys or numbers is not [`places`](crate::places) long.
+    /// 3: a slice of greys or numbers is not [`places`](crate::places) long; or a thumbnail, or its room, is not
+    /// [`thumbnail_places`](crate::thumbnail_places) long.
     Length = 3,
-    /// 4: a number is beyond ±[`NUMBER_LIMIT`](crate::NUMBER_LIMIT).
+    /// 4: a number is beyond ±[`NUMBER_LIMIT`](crate::NUMBER_LIMIT); for a thumbnail, one of those that it is made of.
     Number = 4,
     /// 5: n is above [`MOST_PLANES`](crate::MOST_PLANES).
     Planes = 5,
@@ -40,11 +42,13 @@ pub enum Refusal {
     Fields = 9,
     /// 10: a block's number is out of turn, its bytes 0 to 11 are unlike block 0's, or its label unlike the one expected.
     Turn = 10,
+    /// 13: the halvings of a thumbnail are not in 1 to L.
+    Halvings = 13,
 }
 
 impl Refusal {
     /// All refusals, by their numbers.
-    pub const ALL: [Refusal; 10] = [
+    pub const ALL: [Refusal; 11] = [
         Refusal::Side,
         Refusal::Levels,
         Refusal::Length,
@@ -55,15 +59,16 @@ impl Refusal {
         Refusal::Damaged,
         Refusal::Fields,
         Refusal::Turn,
+        Refusal::Halvings,
     ];
 
-    /// The refusal's number, 1 to 10.
+    /// The refusal's number, 1 to 10 or 13.
     #[must_use]
     pub const fn number(self) -> u32 {
         self as u32
     }
 
-    /// The refusal that has this number; none for 0 and above 10.
+    /// The refusal that has this number; none for 0, 11, 12 and above 13.
     ///
     /// ```
     /// use label::Refusal;
@@ -73,11 +78,14 @@ impl Refusal {
     /// ```
     #[must_use]
     pub const fn from_number(number: u32) -> Option<Refusal> {
-        if number >= 1 && number <= Self::ALL.len() as u32 {
-            Some(Self::ALL[number as usize - 1])
-        } else {
-            None
+        let mut at = 0;
+        while at < Self::ALL.len() {
+            if Self::ALL[at].number() == number {
+                return Some(Self::ALL[at]);
+            }
+            at += 1;
         }
+        None
     }
 }
 
@@ -86,7 +94,7 @@ impl fmt::Display for Refusal {
         to.write_str(match self {
             Refusal::Side => "k is not in 3 to 8",
             Refusal::Levels => "the levels are not in 1 to the smaller of 5 and k - 1",
-            Refusal::Length => "a slice of greys or numbers is not S x S long",
+            Refusal::Length => "a slice of greys or numbers is not as long as its side asks",
             Refusal::Number => "a number is beyond 262143 on either side of 0",
             Refusal::Planes => "there are more than 18 planes",
             Refusal::Room => "too few bytes, too little room, or too many bits",
@@ -94,6 +102,7 @@ impl fmt::Display for Refusal {
             Refusal::Damaged => "a block is damaged, a check is wrong",
             Refusal::Fields => "a block is no block of edition 1, a field is wrong",
             Refusal::Turn => "a block is out of its turn in the record asked for",
+            Refusal::Halvings => "the halvings of a thumbnail are not in 1 to the levels",
         })
     }
 }
@@ -103,13 +112,13 @@ impl Error for Refusal {}
 /// A plain answer as a result: the refusal by name where its number is not 0.
 ///
 /// # Panics
-/// If the number is above 10. The archive has no such answer: it would be one of another version than the package.
+/// If no refusal has the number. The archive has no such answer: it would be one of another version than the package.
 pub(crate) const fn judged<T: Copy>(number: u32, answer: T) -> Result<T, Refusal> {
     if number == 0 {
         return Ok(answer);
     }
     match Refusal::from_number(number) {
         Some(refusal) => Err(refusal),
-        None => panic!("label: a refusal above 10; the archive is not of this package's version"),
+        None => panic!("label: a refusal without a name; the archive is not of this package's version"),
     }
 }

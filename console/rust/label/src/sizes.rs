@@ -53,6 +53,28 @@ pub const fn most_levels(k: u32) -> u32 {
     }
 }
 
+/// The side of a thumbnail, S halved so many times; 0 where k is out of its range, or the halvings are, 1 to
+/// [`most_levels`].
+#[must_use]
+pub const fn thumbnail_side(k: u32, halvings: u32) -> usize {
+    if halvings >= 1 && halvings <= most_levels(k) {
+        side(k) >> halvings
+    } else {
+        0
+    }
+}
+
+/// The greys of a thumbnail, its side squared: what [`thumbnail`](crate::thumbnail) is lent for them, and for its room.
+///
+/// ```
+/// assert_eq!((label::thumbnail_side(6, 2), label::thumbnail_places(6, 2)), (16, 256));
+/// assert_eq!(label::thumbnail_places(3, 3), 0); // side 8 has two levels at most
+/// ```
+#[must_use]
+pub const fn thumbnail_places(k: u32, halvings: u32) -> usize {
+    thumbnail_side(k, halvings) * thumbnail_side(k, halvings)
+}
+
 /// The most bits that a coding of n planes has, n(4S² - 1)/3 + S²; 0 where k or n is out of its range.
 ///
 /// Numbers of any kind have at most [`MOST_PLANES`] planes. A caller that knows n already, from
@@ -102,8 +124,9 @@ pub const fn most_blocks(k: u32, n: u32) -> usize {
 
 /// What a picture is worth with p planes unfinished: no grey is off by more than min(255, (7L + 1)(2^p - 1)).
 ///
-/// It is 0 for p = 0, and 255, which promises nothing, where the formula goes beyond that, whatever it is given. The
-/// promise is about the blocks of one coding: see [`read`](crate::read).
+/// It is 0 for p = 0, and 255, which promises nothing, where the formula goes beyond that, whatever it is given. For a
+/// [`thumbnail`](crate::thumbnail) the levels are those that it undoes, `levels - halvings`. The promise is about the
+/// blocks of one coding: see [`read`](crate::read).
 ///
 /// ```
 /// assert_eq!(label::grey_limit(2, 2), 45);

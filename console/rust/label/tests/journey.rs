@@ -3,7 +3,7 @@
 mod pictures;
 
 use label::{Refusal, BLOCK_BYTES, PAYLOAD_BITS, PAYLOAD_BYTES};
-use pictures::{coding, media_block, pictures, record, sizes, Chance, LABEL, MEDIA};
+use pictures::{coding, low_bands, media_block, pictures, record, set, sizes, Chance, Low, LABEL, MEDIA};
 
 /// What decoded numbers and greys are worth against the true ones, with p planes unfinished.
 fn as_good_as_promised(levels: u32, unfinished: u32, numbers: &[i32], truth: &[i32], shown: &[u8], picture: &[u8]) {
@@ -16,6 +16,29 @@ fn as_good_as_promised(levels: u32, unfinished: u32, numbers: &[i32], truth: &[i
     for (grey, truth) in shown.iter().zip(picture) {
         assert!(grey.abs_diff(*truth) <= limit, "a grey is off by more than {limit}");
     }
+}
+
+/// Every thumbnail of decoded numbers is worth what is promised, with p planes unfinished: at p = 0 it is the low band,
+/// before its greys are set too. Gives how many show other greys than the low band's.
+fn thumbnails_as_promised(k: u32, unfinished: u32, numbers: &[i32], bands: &[Low]) -> usize {
+    let (levels, mut unlike) = (bands.len() as u32, 0);
+    for (r, low) in (1..).zip(bands) {
+        let few = label::thumbnail_places(k, r);
+        let (mut shown, mut room) = (vec![9; few], vec![9; few]);
+        label::thumbnail(k, levels, r, numbers, &mut shown, &mut room).expect("r from 1 to L");
+        assert_eq!(set(&room), shown, "the room has other greys");
+        let limit = label::grey_limit(levels - r, unfinished);
+        if unfinished == 0 {
+            assert_eq!((limit, &room), (0, &low.before), "the low band of {r} levels");
+        }
+        let near = |(grey, truth): (&u8, &u8)| grey.abs_diff(*truth) <= limit;
+        assert!(
+            shown.iter().zip(&low.greys).all(near),
+            "r {r}: a grey is off by more than {limit}"
+        );
+        unlike += usize::from(shown != low.greys);
+    }
+    unlike
 }
 
 #[test]
@@ -43,18 +66,21 @@ fn there_and_back() {
             assert_eq!(numbers, coding.numbers);
             label::inverse(k, levels, &numbers, &mut shown, &mut room).expect("what was settled");
             assert_eq!(shown, picture, "the very picture, k {k}, {levels} levels");
+            let bands = low_bands(k, levels, &picture);
+            assert_eq!(thumbnails_as_promised(k, 0, &numbers, &bands), 0);
         }
     }
 }
 
 #[test]
 fn a_cut_record_keeps_its_promise() {
-    let (mut cut, mut unlike) = (0, 0);
+    let (mut cut, mut unlike, mut thumbnails) = (0, 0, 0);
     for (k, levels) in sizes().filter(|(k, _)| *k < 8) {
         for picture in pictures(k) {
             let coding = coding(k, levels, &picture);
             let record = record(k, levels, &coding);
             let blocks = record.len() / BLOCK_BYTES;
+            let bands = low_bands(k, levels, &picture);
             let mut last = 18;
             // a cut within a block is worth as much as one at its front
             for length in (1..=blocks).map(|count| (count * BLOCK_BYTES + count * 7 % 512).min(record.len())) {
@@ -75,12 +101,13 @@ fn a_cut_record_keeps_its_promise() {
                 last = settled.unfinished;
                 cut += usize::from(count < blocks);
                 unlike += usize::from(shown != picture);
+                thumbnails += thumbnails_as_promised(k, settled.unfinished, &numbers, &bands);
             }
         }
     }
     assert!(
-        cut > 100 && unlike > 100,
-        "{cut} cut records, of which {unlike} show it"
+        cut > 100 && unlike > 100 && thumbnails > 100,
+        "{cut} cut records, of which {unlike} show it, and {thumbnails} of their thumbnails"
     );
 }
 
@@ -90,6 +117,7 @@ fn a_coding_cut_at_any_bit_keeps_its_promise() {
     for (k, levels) in sizes().filter(|(k, _)| *k < 6) {
         for picture in pictures(k) {
             let coding = coding(k, levels, &picture);
+            let bands = low_bands(k, levels, &picture);
             for _ in 0..20 {
                 let limit = chance.below(coding.bits + 1);
                 let mut bytes = vec![0xFF; coding.bytes.len()];
@@ -110,9 +138,28 @@ fn a_coding_cut_at_any_bit_keeps_its_promise() {
                 let settled = label::decode(k, levels, cut.n, &mut numbers, &bytes, limit).expect("bits");
                 label::inverse(k, levels, &numbers, &mut shown, &mut work).expect("numbers");
                 as_good_as_promised(levels, settled.unfinished, &numbers, &coding.numbers, &shown, &picture);
+                thumbnails_as_promised(k, settled.unfinished, &numbers, &bands);
             }
         }
     }
+}
+
+#[test]
+fn the_thumbnails_of_the_format_page() {
+    let mut numbers = [0; 64];
+    numbers[0] = 5;
+    let (mut four, mut room) = ([9; 16], [9; 16]);
+    assert_eq!(label::thumbnail(3, 2, 1, &numbers, &mut four, &mut room), Ok(()));
+    assert_eq!(four[..6], [133, 130, 128, 128, 130, 129]);
+    assert_eq!(four[6..], [128; 10]);
+    assert_eq!(room[..5], [133, 130, 130, 129, 128]); // in Z order
+    let (mut two, mut room) = ([9; 4], [9; 4]);
+    assert_eq!(label::thumbnail(3, 2, 2, &numbers, &mut two, &mut room), Ok(()));
+    assert_eq!((two, room), ([133, 128, 128, 128], [133, 128, 128, 128]));
+    // set into 0 to 255, and the room has what they were
+    numbers[1..3].copy_from_slice(&[-200, 200]);
+    assert_eq!(label::thumbnail(3, 2, 2, &numbers, &mut two, &mut room), Ok(()));
+    assert_eq!((two, room), ([133, 0, 255, 128], [133, -72, 328, 128]));
 }
 
 #[test]

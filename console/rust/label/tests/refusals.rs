@@ -3,7 +3,7 @@
 mod pictures;
 
 use label::{raw, Refusal, BLOCK_BYTES, PAYLOAD_BYTES};
-use pictures::{coding, media_block, pictures, record, seal, LABEL, MEDIA};
+use pictures::{coding, media_block, pictures, record, seal, sizes, LABEL, MEDIA};
 use std::collections::HashSet;
 
 const ODD: i32 = -77; // what lent slices hold before a call
@@ -39,6 +39,16 @@ fn decode(k: u32, levels: u32, n: u32, numbers: usize, bytes: usize, b: usize) -
 fn inverse(k: u32, levels: u32, numbers: &[i32], picture: usize, room: usize) -> Result<(), Refusal> {
     let (mut greys, mut work) = (vec![BYTE; picture], vec![ODD; room]);
     let answer = label::inverse(k, levels, numbers, &mut greys, &mut work);
+    if answer.is_err() {
+        assert!(greys.iter().all(|byte| *byte == BYTE) && work.iter().all(|number| *number == ODD));
+    }
+    answer
+}
+
+/// Lent so many greys, and so many places of room.
+fn thumbnail(k: u32, levels: u32, halvings: u32, numbers: &[i32], lent: [usize; 2]) -> Result<(), Refusal> {
+    let (mut greys, mut work) = (vec![BYTE; lent[0]], vec![ODD; lent[1]]);
+    let answer = label::thumbnail(k, levels, halvings, numbers, &mut greys, &mut work);
     if answer.is_err() {
         assert!(greys.iter().all(|byte| *byte == BYTE) && work.iter().all(|number| *number == ODD));
     }
@@ -81,6 +91,7 @@ fn sides() {
         assert_eq!(code(k, 1, &[0; 64], 100), Err(Refusal::Side));
         assert_eq!(decode(k, 1, 0, 64, 0, 0), Err(Refusal::Side));
         assert_eq!(inverse(k, 1, &[0; 64], 64, 64), Err(Refusal::Side));
+        assert_eq!(thumbnail(k, 1, 1, &[0; 64], [16, 16]), Err(Refusal::Side));
         assert_eq!(write(k, 1, 0, LABEL, 0, 0, 512), Err(Refusal::Side));
     }
 }
@@ -100,7 +111,29 @@ fn levels() {
                 inverse(k, levels, &vec![0; places], places, places),
                 Err(Refusal::Levels)
             );
+            assert_eq!(
+                thumbnail(k, levels, 1, &vec![0; places], [places / 4; 2]),
+                Err(Refusal::Levels)
+            );
             assert_eq!(write(k, levels, 0, LABEL, 0, 0, 512), Err(Refusal::Levels));
+        }
+    }
+}
+
+#[test]
+fn halvings() {
+    for (k, levels) in sizes() {
+        let numbers = vec![0; label::places(k)];
+        for r in (0..40).chain([63, 64, u32::MAX]) {
+            let few = label::thumbnail_places(k, r);
+            if (1..=levels).contains(&r) {
+                assert_eq!(thumbnail(k, levels, r, &numbers, [few; 2]), Ok(()));
+            } else {
+                // whatever the lengths are
+                for lent in [few, 0, 1, 64] {
+                    assert_eq!(thumbnail(k, levels, r, &numbers, [lent; 2]), Err(Refusal::Halvings));
+                }
+            }
         }
     }
 }
@@ -115,6 +148,14 @@ fn lengths() {
         assert_eq!(inverse(3, 2, &vec![0; length], 64, 64), Err(Refusal::Length));
         assert_eq!(inverse(3, 2, &[0; 64], length, 64), Err(Refusal::Length));
         assert_eq!(inverse(3, 2, &[0; 64], 64, length), Err(Refusal::Length));
+        for (r, few) in [(1, 16), (2, 4)] {
+            assert_eq!(thumbnail(3, 2, r, &vec![0; length], [few; 2]), Err(Refusal::Length));
+        }
+    }
+    // of a thumbnail, the greys and the room are fewer
+    for length in (0..16).chain(17..66) {
+        assert_eq!(thumbnail(3, 2, 1, &[0; 64], [length, 16]), Err(Refusal::Length));
+        assert_eq!(thumbnail(3, 2, 1, &[0; 64], [16, length]), Err(Refusal::Length));
     }
 }
 
@@ -134,6 +175,19 @@ fn numbers() {
             let refusal = if good { None } else { Some(Refusal::Number) };
             assert_eq!(code(3, 2, &numbers, 1000).err(), refusal);
             assert_eq!(inverse(3, 2, &numbers, 64, 64).err(), refusal);
+        }
+        // a thumbnail's are the first
+        for place in 0..64 {
+            let mut numbers = [0; 64];
+            numbers[place] = number;
+            for (r, few) in [(1, 16), (2, 4)] {
+                let refusal = if good || place >= few {
+                    Ok(())
+                } else {
+                    Err(Refusal::Number)
+                };
+                assert_eq!(thumbnail(3, 2, r, &numbers, [few; 2]), refusal);
+            }
         }
     }
 }
@@ -321,6 +375,7 @@ fn slices_of_length_0() {
     assert_eq!(label::code(3, 2, &[], 0, &mut []), Err(Refusal::Length));
     assert_eq!(label::decode(3, 2, 0, &mut [], &[], 0), Err(Refusal::Length));
     assert_eq!(label::inverse(3, 2, &[], &mut [], &mut []), Err(Refusal::Length));
+    assert_eq!(label::thumbnail(3, 2, 2, &[], &mut [], &mut []), Err(Refusal::Length));
     assert_eq!(label::write(3, 2, 0, &[], &[], 0, &mut []), Err(Refusal::Room));
     assert_eq!(label::read(&[], &[], &mut []), Err(Refusal::Room));
     assert_eq!(label::check(&[]), Err(Refusal::Room));
@@ -356,6 +411,18 @@ fn the_lowest_that_applies() {
 }
 
 #[test]
+fn thirteen_after_two_and_before_three() {
+    let wrong = [i32::MIN; 63]; // a wrong length, and each a wrong number
+    assert_eq!(thumbnail(2, 9, 0, &wrong, [1, 2]), Err(Refusal::Side));
+    assert_eq!(thumbnail(3, 9, 0, &wrong, [1, 2]), Err(Refusal::Levels));
+    assert_eq!(thumbnail(3, 2, 0, &wrong, [1, 2]), Err(Refusal::Halvings));
+    assert_eq!(thumbnail(3, 2, 3, &wrong, [1, 2]), Err(Refusal::Halvings));
+    assert_eq!(thumbnail(3, 2, 2, &wrong, [4, 4]), Err(Refusal::Length));
+    assert_eq!(thumbnail(3, 2, 2, &[i32::MIN; 64], [4, 5]), Err(Refusal::Length));
+    assert_eq!(thumbnail(3, 2, 2, &[i32::MIN; 64], [4, 4]), Err(Refusal::Number));
+}
+
+#[test]
 fn plain_answers() {
     let refused = raw::Kept {
         refusal: 10,
@@ -381,6 +448,8 @@ fn plain_answers() {
     };
     assert_eq!(raw::decode(3, 2, 19, &mut [0; 64], &[], 0), refused);
     assert_eq!(raw::inverse(3, 2, &[i32::MIN; 64], &mut [0; 64], &mut [0; 64]), 4);
+    assert_eq!(raw::thumbnail(3, 2, 0, &[i32::MIN; 64], &mut [], &mut []), 13);
+    assert_eq!(raw::thumbnail(3, 2, 1, &[0; 64], &mut [0; 16], &mut [0; 16]), 0);
     assert_eq!(
         raw::write(3, 2, 0, b"417", &[], 0, &mut [0; 512]),
         raw::Blocks { refusal: 7, blocks: 0 }
@@ -397,8 +466,8 @@ fn plain_answers() {
 
 #[test]
 fn names_and_numbers() {
-    assert_eq!(Refusal::ALL.map(Refusal::number), [1, 2, 3, 4, 5, 6, 7, 8, 9, 10]);
-    for number in [0, 11, 12, u32::MAX] {
+    assert_eq!(Refusal::ALL.map(Refusal::number), [1, 2, 3, 4, 5, 6, 7, 8, 9, 10, 13]);
+    for number in [0, 11, 12, 14, u32::MAX] {
         assert_eq!(Refusal::from_number(number), None);
     }
     let mut said = HashSet::new();
@@ -414,4 +483,10 @@ fn names_and_numbers() {
 #[should_panic(expected = "not of this package's version")]
 fn a_refusal_that_there_is_not() {
     let _ = raw::Planes { refusal: 11, n: 0 }.result();
+}
+
+#[test]
+#[should_panic(expected = "not of this package's version")]
+fn a_refusal_above_all() {
+    let _ = raw::Planes { refusal: 14, n: 0 }.result();
 }

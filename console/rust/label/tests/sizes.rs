@@ -32,6 +32,11 @@ fn room_by_the_formulas() {
         assert_eq!(label::side(k) as u128, side);
         assert_eq!(label::places(k) as u128, side * side);
         assert_eq!(label::most_levels(k), 5.min(k - 1));
+        for r in 1..=label::most_levels(k) {
+            let small = side / (1 << r);
+            assert_eq!(label::thumbnail_side(k, r) as u128, small);
+            assert_eq!(label::thumbnail_places(k, r) as u128, small * small);
+        }
         for n in 0..=MOST_PLANES {
             let bits = u128::from(n) * (4 * side * side - 1) / 3 + side * side;
             assert_eq!(label::most_bits(k, n) as u128, bits);
@@ -48,6 +53,11 @@ fn nothing_out_of_range() {
         assert_eq!(label::side(k) != 0, in_range);
         assert_eq!(label::places(k) != 0, in_range);
         assert_eq!(label::most_levels(k) != 0, in_range);
+        for r in ANY.into_iter().chain(0..12) {
+            let some = in_range && (1..=label::most_levels(k)).contains(&r);
+            assert_eq!(label::thumbnail_side(k, r) != 0, some);
+            assert_eq!(label::thumbnail_places(k, r) != 0, some);
+        }
         for n in ANY {
             assert_eq!(label::most_bits(k, n) != 0, in_range && n <= MOST_PLANES);
             assert_eq!(label::most_bytes(k, n) != 0, in_range && n <= MOST_PLANES);

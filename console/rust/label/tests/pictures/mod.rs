@@ -63,6 +63,35 @@ pub fn coding(k: u32, levels: u32, picture: &[u8]) -> Coding {
     }
 }
 
+/// What a thumbnail is to show: the low band that some levels leave of a picture, plus 128, in Z order; and its greys.
+pub struct Low {
+    pub before: Vec<i32>,
+    pub greys: Vec<u8>,
+}
+
+/// The low bands of 1, 2 and so on to all levels.
+pub fn low_bands(k: u32, levels: u32, picture: &[u8]) -> Vec<Low> {
+    let mut numbers = vec![77; label::places(k)];
+    let low_band = |r: u32| {
+        label::forward(k, r, picture, &mut numbers).expect("a picture");
+        let before: Vec<i32> = numbers[..4_usize.pow(k - r)].iter().map(|low| low + 128).collect();
+        let greys = set(&before);
+        Low { before, greys }
+    };
+    (1..=levels).map(low_band).collect()
+}
+
+/// Greys in Z order set into 0 to 255, row by row.
+pub fn set(greys: &[i32]) -> Vec<u8> {
+    let spread = |i: usize| (0..8).map(|bit| ((i >> bit) & 1) << (2 * bit)).sum::<usize>();
+    let line: Vec<usize> = (0..greys.len().isqrt()).map(spread).collect();
+    let mut set = Vec::with_capacity(greys.len());
+    for row in &line {
+        set.extend(line.iter().map(|column| greys[2 * row + column].clamp(0, 255) as u8));
+    }
+    set
+}
+
 /// A picture's record under LABEL, in a room that is filled to the last byte.
 pub fn record(k: u32, levels: u32, coding: &Coding) -> Vec<u8> {
     let mut room = vec![0xAA; label::blocks(coding.bits) * label::BLOCK_BYTES];
