@@ -16,7 +16,7 @@ use lib.IntN.{ℤ}
 use lib.ListN.{length, take, drop}
 use Rattle.paper.specs.Lists.{pick}
 use Rattle.paper.specs.Sizes.{judged}
-use Rattle.paper.specs.Jobs.{Forward, forwardJob, Coding, codingJob, Writing, writingJob, Decoding, decodingJob, Inverse, inverseJob, thumbnailJob, Read, readingJob}
+use Rattle.paper.specs.Jobs.{Forward, forwardJob, Coding, codingJob, Writing, writingJob, Decoding, decodingJob, Inverse, Read, readingJob}
 use Rattle.label.specs.Journey.{intoRecord, Seen, seenBy, outOfRecord, thumbnailOutOfRecord}
 use Rattle.desk.specs.declared.Wanted.{Wanted}
 use Rattle.desk.specs.declared.Wanted.the-variants.{Picture, Thumbnail}

@@ -1,5 +1,6 @@
 -- Demand 1. Every call is refused by the lowest row of the table that applies (a thumbnail by the first that is judged, since 13 is
--- judged before 3), and by 0 exactly where none does; a refused call answers 0 for all else and changes nothing lent. (That every call ends is what the checker proves of every function.)
+-- judged before 3), and by 0 exactly where none does; a refused call answers 0 for all else and changes nothing lent. (That every
+-- call ends is what the checker proves of every function.)
 use mathlib.Core.Path.{_≡_, refl, ap}
 use mathlib.Core.Bool.{Bool, true, false, _&&_}
 use mathlib.Core.List.{List}

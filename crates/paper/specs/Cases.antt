@@ -94,10 +94,11 @@ pub record Checked : Type 0 where
   }
   -- side 2: the smallest band and 128
   pub thumbnail-smallest : thumbnail 2 (pos 5 ∷ negsuc 199 ∷ pos 200 ∷ zeros 61) ≡ record { refusal = 0; picture = 133 ∷ 0 ∷ 255 ∷ 128 ∷ []; room = pos 133 ∷ negsuc 71 ∷ pos 328 ∷ pos 128 ∷ [] }
-  -- 4 for the last of the first 16; 13 for r below 1 and above L, before 3
-  pub thumbnail-limit : (thumbnail 1 (zeros 15 ++ pos 262144 ∷ zeros 48)) .refusal ≡ 4
-  pub thumbnail-whole : (thumbnail 0 (zeros 64)) .refusal ≡ 13
+  -- 4 for the last of the first 16; 13 for r below 1 and above L, before 3 and after 2
+  pub thumbnail-beyond : (thumbnail 1 (zeros 15 ++ pos 262144 ∷ zeros 48)) .refusal ≡ 4
+  pub thumbnail-unhalved : (thumbnail 0 (zeros 64)) .refusal ≡ 13
   pub thumbnail-deep : (thumbnail 3 []) .refusal ≡ 13
+  pub thumbnail-levels : (thumbnailJob 3 3 0 [] [] []) .refusal ≡ 2
   pub block : writingJob 3 2 0 label417 [] 0 (replicate 514 0x55) ≡ record { refusal = 0; blocks = 1; room = block417 ++ 0x55 ∷ 0x55 ∷ [] }
   pub label : readingJob block417 label417 (replicate 492 0x55) ≡ record { refusal = 0; k = 3; L = 2; n = 0; blocks = 1; bits = 0; ended = 0; room = replicate 492 0x55 }
   pub zeros-kept : (readingJob block417 (0x34 ∷ 0x31 ∷ 0x37 ∷ []) (replicate 492 0x55)) .refusal ≡ 7
@@ -113,4 +114,4 @@ pub record Checked : Type 0 where
 
 pub checked : Checked
 unfolding sizeIn levelsIn halvingsIn planesIn numbersIn mostBits made joined highOf lowOf highAt lowAt lineForward oddOf evenOf evenAt oddAt woven lineBack interleaved columnOf rowOf zOf rasterOf placeOf lineOf spotOf line along levelForward levelBack onFirst levelsForward levelsBack lowered raised grey pictured numbersOf greysOf lowBand lowGreysOf thumbnailOf bitOf reaches largest bitsNeeded planeCount testSet refined begun walkNumber _next_ walkNumbers walkSet walkRest walkPlane walkPlanes codeOf decodeOf bits byteOf packed laid allZero labelCharacter labelCharacters isLabel sameBytes plainSum weighedSum header sealed payloadOf checksRight fieldsRight blockRefusal blockOf recordOf inTurn turnRefusal runFrom bitsKept payloadKept sizesRefusal forwardRefusal forwardJob codingRefusal writtenOf codingJob decodingRefusal decodingJob thumbnailRefusal thumbnailJob writingRefusal writingJob readingRefusal readingJob
-checked = record { P1 = refl; P2 = refl; P3 = refl; P4 = refl; P5 = refl; P6 = refl; P7 = refl; P8 = refl; P9 = refl; P9-bits = refl; P9-planes = refl; P10 = refl; P11 = refl; low-band = refl; thumbnail-early = refl; thumbnail-smallest = refl; thumbnail-limit = refl; thumbnail-whole = refl; thumbnail-deep = refl; block = refl; label = refl; zeros-kept = refl; block-L6 = refl; label-L6 = refl; checks = refl; every-character = refl; characters = refl; no-characters = refl }
+checked = record { P1 = refl; P2 = refl; P3 = refl; P4 = refl; P5 = refl; P6 = refl; P7 = refl; P8 = refl; P9 = refl; P9-bits = refl; P9-planes = refl; P10 = refl; P11 = refl; low-band = refl; thumbnail-early = refl; thumbnail-smallest = refl; thumbnail-beyond = refl; thumbnail-unhalved = refl; thumbnail-deep = refl; thumbnail-levels = refl; block = refl; label = refl; zeros-kept = refl; block-L6 = refl; label-L6 = refl; checks = refl; every-character = refl; characters = refl; no-characters = refl }

@@ -1,4 +1,4 @@
--- Sizes and limits, each behind one name, and how a refusal is judged: the lowest number that applies, 0 if none.
+-- Sizes and limits, each behind one name, and how a refusal is judged: the first row that applies, 0 if none.
 use mathlib.Core.Bool.{Bool, true, false, not, _&&_}
 use Prim.Native.Nat.{ℕ, zero, suc, _+_, _*_, _-_, _/_, _^_, min}
 use lib.Dec.{leb}

@@ -29,6 +29,18 @@ pub halvings-few : (L r : ℕ) → halvingsIn L r ≡ true → r ≤ L
 unfolding halvingsIn
 halvings-few L r e = leb-true r L (both-second (leb 1 r) (leb r L) e)
 
+-- where sizes are right too, it is below k
+pub halvings-below : (k L r n : ℕ) → n ≡ sizesRefusal k L 0 → n ≤ 0 → halvingsIn L r ≡ true → r < k
+halvings-below k L r n e h f =
+    let z : n ≡ 0 = omega arith in
+    omega (arith, halvings-few L r f, levels-less k L (levels-accepted k L 0 (sym e ∙ z)))
+
+-- where lengths are right, the room is no longer than the numbers
+pub room-within : (k r numbers picture room : ℕ) → (isSquare k numbers && isSquare (k - r) picture && isSquare (k - r) room) ≡ true → room ≤ numbers
+room-within k r numbers picture room s =
+    let q = squares-are k (k - r) numbers picture room s in
+    omega (arith, q .0, q .2, first-le k r)
+
 -- ---- the rows, as they are judged one after the other
 module _ (k L r : ℕ) (numbers : List ℤ) (picture : List ℕ) (room : List ℤ) (n : ℕ) (e : n ≡ sizesRefusal k L 0) where
   pub sizes-judged : 0 < n → n ≡ thumbnailRefusal k L r numbers picture room
@@ -41,23 +53,11 @@ module _ (k L r : ℕ) (numbers : List ℤ) (picture : List ℕ) (room : List �
     halvings-refused f = rw (sizes-right k L _ n e h, f)
 
     module _ (f : halvingsIn L r ≡ true) where
-      -- so r is below k
-      pub halvings-below : r < k
-      halvings-below =
-          let z : n ≡ 0 = omega arith in
-          omega (arith, halvings-few L r f, levels-less k L (levels-accepted k L 0 (sym e ∙ z)))
-
       pub lengths-refused : (isSquare k (length numbers) && isSquare (k - r) (length picture) && isSquare (k - r) (length room)) ≡ false → 3 ≡ thumbnailRefusal k L r numbers picture room
       unfolding thumbnailRefusal
       lengths-refused s = rw (sizes-right k L _ n e h, f, s)
 
       module _ (s : (isSquare k (length numbers) && isSquare (k - r) (length picture) && isSquare (k - r) (length room)) ≡ true) where
-        -- so the room is as long as the first numbers
-        pub room-within : length room ≤ length numbers
-        room-within =
-            let q = squares-are k (k - r) (length numbers) (length picture) (length room) s in
-            omega (arith, q .0, q .2, first-le k r)
-
         pub numbers-judged : (b : Bool) → numbersIn (take (length room) numbers) ≡ b → unless 4 b 0 ≡ thumbnailRefusal k L r numbers picture room
         unfolding thumbnailRefusal
         numbers-judged b q = rw (sizes-right k L _ n e h, f, s, ← squares-are k (k - r) (length numbers) (length picture) (length room) s .2, q)
@@ -84,7 +84,7 @@ module _ (k L r : ℕ) (numbers : List ℤ) (picture : List ℕ) (room : List �
   squared = squares-are k (k - r) (length numbers) (length picture) (length room) (row-passed 2 lengths _ rows)
 
   pub room-fits : length room ≤ length numbers
-  room-fits = omega (arith, squared .0, squared .2, first-le k r)
+  room-fits = room-within k r (length numbers) (length picture) (length room) (row-passed 2 lengths _ rows)
 
   -- the numbers of the smaller square are in its range
   pub accepted : (k - r ≤ mostSize) × ((L - r ≤ mostLevels) × ((L - r ≤ k - r) × ((length (take (length room) numbers) ≡ 4 ^ (k - r)) × ((numbersIn (take (length room) numbers) ≡ true) × ((length picture ≡ 4 ^ (k - r)) × (length room ≡ 4 ^ (k - r)))))))

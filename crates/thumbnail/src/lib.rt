@@ -1,5 +1,5 @@
-// The job thumbnail: a picture with its side halved r times, from the first numbers alone. It is the inverse of a smaller square,
-// whose last r levels were never made; `halvings` is r.
+// The job thumbnail: a picture with its side halved r times, from the first numbers alone. It is the inverse that stops r levels
+// early: those of the larger squares are not undone. `halvings` is r.
 // It takes whatever it is given: what is out of range is refused by its number and nothing lent is changed.
 ghost use mathlib.Core.Path.{_≡_};
 ghost use Rattle.paper.specs.Sizes.{halvingsIn};

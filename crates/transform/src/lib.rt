@@ -1,8 +1,7 @@
 // The jobs forward and inverse: a picture's wavelet numbers, and the picture that wavelet numbers give back.
 // Both take whatever they are given: what is out of range is refused by its number and nothing lent is changed.
 ghost use mathlib.Core.Path.{_≡_};
-ghost use mathlib.Core.Bool.{true};
-ghost use mathlib.Core.Bool.{_&&_};
+ghost use mathlib.Core.Bool.{true, _&&_};
 ghost use Prim.Native.Nat.{_^_, _≤_};
 ghost use lib.ListN.{length};
 ghost use Rattle.paper.specs.Sizes.{mostSize, mostLevels, sizeIn, levelsIn, numbersIn};

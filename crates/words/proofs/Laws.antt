@@ -124,7 +124,7 @@ unfolding putsAll
 puts-more [] more line = refl
 puts-more (text ∷ texts) more line = puts-more texts more (line puts text)
 
--- either texts
+-- one text or another, as lists of them
 pub puts-either : (b : Bool) (texts more : List (List ℕ)) (line : Line) → pick b (putsAll line texts) (putsAll line more) ≡ putsAll line (pick b texts more)
 puts-either true texts more line = refl
 puts-either false texts more line = refl

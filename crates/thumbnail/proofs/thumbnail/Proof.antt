@@ -25,19 +25,19 @@ returns c =
 
 sub-j : tie.Need-sub-j
 sub-j c =
-    omega (arith, few (c .before .before .before .before .before .args .k) (c .before .before .before .before .before .args .levels) (c .before .before .before .before .before .args .halvings) (c .before .before .before .before .before .args .numbers .now) (c .before .before .before .before .before .args .picture .now) (c .before .before .before .before .before .args .room .now) _ (c .before .refusal .ensures) (c .if1 .left))
+    omega (arith, few _ _ _ _ _ _ _ (c .before .refusal .ensures) (c .if1 .left))
 
 sub-left : tie.Need-sub-left
 sub-left c =
-    few (c .before .before .before .before .before .args .k) (c .before .before .before .before .before .args .levels) (c .before .before .before .before .before .args .halvings) (c .before .before .before .before .before .args .numbers .now) (c .before .before .before .before .before .args .picture .now) (c .before .before .before .before .before .args .room .now) _ (c .before .refusal .ensures) (c .if1 .left) .0
+    few _ _ _ _ _ _ _ (c .before .refusal .ensures) (c .if1 .left) .0
 
 slice-aggregate-rebuild : tie.Need-slice-aggregate-rebuild
 slice-aggregate-rebuild c =
-    sym (length-take-le _ _ (room-fits (c .before .before .before .before .before .before .args .k) (c .before .before .before .before .before .before .args .levels) (c .before .before .before .before .before .before .args .halvings) (c .before .before .before .before .before .before .args .numbers .now) (c .before .before .before .before .before .before .args .picture .now) (c .before .before .before .before .before .before .args .room .now) _ (c .before .before .refusal .ensures) (c .before .if1 .left)))
+    sym (length-take-le _ _ (room-fits _ _ _ _ _ _ _ (c .before .before .refusal .ensures) (c .before .if1 .left)))
 
 rebuild-requires : tie.Need-rebuild-requires
 rebuild-requires c κs =
-    accepted (c .before .before .before .before .before .before .before .before .args .k) (c .before .before .before .before .before .before .before .before .args .levels) (c .before .before .before .before .before .before .before .before .args .halvings) (c .before .before .before .before .before .before .before .before .args .numbers .now) (c .before .before .before .before .before .before .before .before .args .picture .now) (c .before .before .before .before .before .before .before .before .args .room .now) _ (c .before .before .before .before .refusal .ensures) (c .before .before .before .if1 .left)
+    accepted _ _ _ _ _ _ _ (c .before .before .before .before .refusal .ensures) (c .before .before .before .if1 .left)
 
 same-length-3 : tie.Need-same-length-3
 same-length-3 c = search needs
@@ -47,7 +47,7 @@ same-length-4 c = search needs
 
 returns-2 : tie.Need-returns-2
 returns-2 c =
-    thumbnail-done (c .before .before .before .before .before .before .before .before .before .before .before .before .args .k) (c .before .before .before .before .before .before .before .before .before .before .before .before .args .levels) (c .before .before .before .before .before .before .before .before .before .before .before .before .args .halvings) (c .before .before .before .before .before .before .before .before .before .before .before .before .args .numbers .now) (c .before .before .before .before .before .before .before .before .before .before .before .before .args .picture .now) (c .before .before .before .before .before .before .before .before .before .before .before .before .args .room .now) _ (c .before .before .before .before .before .before .before .before .refusal .ensures) (c .before .before .before .before .before .before .before .if1 .left) _ _ (c .before .before .before .rebuild .ensures .0) (c .before .before .before .rebuild .ensures .1)
+    thumbnail-done _ _ _ _ _ _ _ (c .before .before .before .before .before .before .before .before .refusal .ensures) (c .before .before .before .before .before .before .before .if1 .left) _ _ (c .before .before .before .rebuild .ensures .0) (c .before .before .before .rebuild .ensures .1)
 
 pub thumbnail-spec : {M : Type 1} → statement M
 thumbnail-spec =

@@ -21,7 +21,7 @@ returns c =
 
 rebuild-requires : tie.Need-rebuild-requires
 rebuild-requires c κs =
-    inverse-accepted (c .before .before .before .before .before .before .before .args .k) (c .before .before .before .before .before .before .before .args .levels) (c .before .before .before .before .before .before .before .args .numbers .now) (c .before .before .before .before .before .before .before .args .picture .now) (c .before .before .before .before .before .before .before .args .room .now) _ (c .before .before .before .inverse-refusal .ensures) (c .before .before .if1 .left)
+    inverse-accepted _ _ _ _ _ _ (c .before .before .before .inverse-refusal .ensures) (c .before .before .if1 .left)
 
 same-length-3 : tie.Need-same-length-3
 same-length-3 c = search needs
@@ -31,7 +31,7 @@ same-length-4 c = search needs
 
 returns-2 : tie.Need-returns-2
 returns-2 c =
-    inverse-done (c .before .before .before .before .before .before .before .before .before .before .before .args .k) (c .before .before .before .before .before .before .before .before .before .before .before .args .levels) (c .before .before .before .before .before .before .before .before .before .before .before .args .numbers .now) (c .before .before .before .before .before .before .before .before .before .before .before .args .picture .now) (c .before .before .before .before .before .before .before .before .before .before .before .args .room .now) _ (c .before .before .before .before .before .before .before .inverse-refusal .ensures) (c .before .before .before .before .before .before .if1 .left) _ _ (c .before .before .before .rebuild .ensures .0) (c .before .before .before .rebuild .ensures .1)
+    inverse-done _ _ _ _ _ _ (c .before .before .before .before .before .before .before .inverse-refusal .ensures) (c .before .before .before .before .before .before .if1 .left) _ _ (c .before .before .before .rebuild .ensures .0) (c .before .before .before .rebuild .ensures .1)
 
 pub inverse-spec : {M : Type 1} → statement M
 inverse-spec =

@@ -14,16 +14,16 @@ sizes-refusal-requires c κs = search needs
 returns : tie.Need-returns
 unfolding inverseRefusal
 returns c =
-    sizes-refused (c .before .before .before .args .k) (c .before .before .before .args .levels) _ _ (c .before .sizes-refusal .ensures) (c .if1 .taken)
+    sizes-refused _ _ _ _ (c .before .sizes-refusal .ensures) (c .if1 .taken)
 
 squares-requires : tie.Need-squares-requires
 squares-requires c κs =
-    let h = size-high _ (size-right (c .before .before .before .args .k) (c .before .before .before .args .levels) _ (c .before .sizes-refusal .ensures) (c .if1 .left)) in (h, h)
+    let h = size-high _ (size-right _ _ _ (c .before .sizes-refusal .ensures) (c .if1 .left)) in (h, h)
 
 returns-2 : tie.Need-returns-2
 unfolding inverseRefusal
 returns-2 c =
-    rw (sizes-right (c .before .before .before .before .before .args .k) (c .before .before .before .before .before .args .levels) _ _ (c .before .before .before .sizes-refusal .ensures) (c .before .before .if1 .left), sym (c .before .squares .ensures) ∙ not-true _ (c .if2 .taken))
+    rw (sizes-right _ _ _ _ (c .before .before .before .sizes-refusal .ensures) (c .before .before .if1 .left), sym (c .before .squares .ensures) ∙ not-true _ (c .if2 .taken))
 
 numbers-in-requires : tie.Need-numbers-in-requires
 numbers-in-requires c κs = search needs
@@ -31,12 +31,12 @@ numbers-in-requires c κs = search needs
 returns-3 : tie.Need-returns-3
 unfolding inverseRefusal
 returns-3 c =
-    rw (sizes-right (c .before .before .before .before .before .before .before .args .k) (c .before .before .before .before .before .before .before .args .levels) _ _ (c .before .before .before .before .before .sizes-refusal .ensures) (c .before .before .before .before .if1 .left), sym (c .before .before .before .squares .ensures) ∙ not-false _ (c .before .before .if2 .left), sym (c .before .numbers-in .ensures) ∙ c .if3 .taken)
+    rw (sizes-right _ _ _ _ (c .before .before .before .before .before .sizes-refusal .ensures) (c .before .before .before .before .if1 .left), sym (c .before .before .before .squares .ensures) ∙ not-false _ (c .before .before .if2 .left), sym (c .before .numbers-in .ensures) ∙ c .if3 .taken)
 
 returns-4 : tie.Need-returns-4
 unfolding inverseRefusal
 returns-4 c =
-    rw (sizes-right (c .before .before .before .before .before .before .before .args .k) (c .before .before .before .before .before .before .before .args .levels) _ _ (c .before .before .before .before .before .sizes-refusal .ensures) (c .before .before .before .before .if1 .left), sym (c .before .before .before .squares .ensures) ∙ not-false _ (c .before .before .if2 .left), sym (c .before .numbers-in .ensures) ∙ c .if3 .left)
+    rw (sizes-right _ _ _ _ (c .before .before .before .before .before .sizes-refusal .ensures) (c .before .before .before .before .if1 .left), sym (c .before .before .before .squares .ensures) ∙ not-false _ (c .before .before .if2 .left), sym (c .before .numbers-in .ensures) ∙ c .if3 .left)
 
 pub inverse-refusal-spec : {M : Type 1} → statement M
 inverse-refusal-spec =
