@@ -5,7 +5,8 @@ usage: python3 reader.py LABEL RECORD PICTURE [R]
 LABEL is eight characters, 0-9 or A-Z, leading zeros counted, RECORD the file of
 the record, PICTURE a new file for the picture (binary PGM). The first word said
 is WHOLE or CUT (status 0) or REFUSED (status 1, no picture); wrong usage: 2.
-R, from 1 to L, asks for a thumbnail: side halved R times, L - R in the promise.
+R, from 1 to L, asks for a thumbnail, the side halved R times: the promise has
+L - R for L, and off is off from the same thumbnail of the picture as it was.
 
 A record is a grey picture of side 8 to 256 in a run of 512-byte blocks. Bits of
 its wavelet numbers stand there, the most significant first. So the blocks that
@@ -106,7 +107,7 @@ def opened(label, record, R=''):
             '  planes finished: %d of %d, levels: %d, bits: %d' % (n - p, n, L, len(bits))]
     if bad: said += ['  block %d ended the run: it is %s' % (kept, bad[0])] + bad[1:]
     header = 'P5\n# %s %s, p = %d,%s no grey off by more than %d of 255%s\n%d %d\n255\n' % (
-        label, verdict, p, ' thumbnail of side %d,' % S if R else '', limit,
+        label, verdict, p, ' thumbnail from side %d,' % S if R else '', limit,
         ', if of one shot' if kept > 1 else '', side, side)
     return said, header.encode() + greys(numbers, k, L, r)
 

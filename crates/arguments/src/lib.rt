@@ -1,8 +1,12 @@
 // What a person gave a program on its command line: options, and numbers in digits.
+ghost use mathlib.Core.Path.{_≡_};
+ghost use Rattle.arguments.specs.Words.{isOption};
 use pgm::Number;
 
 // No label begins with a dash.
-pub fn is_option(word: &[u8]) -> bool {
+pub fn is_option(word: &[u8]) -> bool
+    ensures { λ r. ⌜ r ≡ isOption (now (word .entry)) ⌝ }
+{
     if word.len() == 0 {
         return false;
     }

@@ -80,7 +80,7 @@ thumbnail-line r text h = either OneLine (eqb r 0) _ _ nothing-more h
 -- the texts of the promise
 texts : List ℕ → ℕ → ℕ → ℕ → ℕ → ℕ → List (List ℕ)
 texts label k L r p blocks =
-    label ∷ ascii " " ∷ word p ∷ ascii ", p = " ∷ figure p ∷ ofThumbnail r (ascii ", thumbnail of side ") ∷ ofThumbnail r (figure (sideOf k))
+    label ∷ ascii " " ∷ word p ∷ ascii ", p = " ∷ figure p ∷ ofThumbnail r (ascii ", thumbnail from side ") ∷ ofThumbnail r (figure (sideOf k))
     ∷ ascii ", no grey off by more than " ∷ figure (greyLimit (L - r) p) ∷ of255 blocks ∷ []
 
 promise-texts : (label : List ℕ) (k L r p blocks : ℕ) → promiseText label k L r p blocks ≡ oneText (texts label k L r p blocks)
@@ -105,7 +105,7 @@ module _ (label : List ℕ) (k L r p blocks : ℕ) (named : isLabel label ≡ tr
   texts-lines : all-lines (texts label k L r p blocks) ≡ true
   unfolding all-lines texts isOneLine isLineEnd
   texts-lines =
-      rw (label-line, word-line p, figure-line 20 p, thumbnail-line r (ascii ", thumbnail of side ") refl, thumbnail-line r (figure (sideOf k)) (figure-line 20 (sideOf k)), figure-line 20 (greyLimit (L - r) p), of255-line blocks)
+      rw (label-line, word-line p, figure-line 20 p, thumbnail-line r (ascii ", thumbnail from side ") refl, thumbnail-line r (figure (sideOf k)) (figure-line 20 (sideOf k)), figure-line 20 (greyLimit (L - r) p), of255-line blocks)
 
   pub promise-one-line : isOneLine (promiseText label k L r p blocks) ≡ true
   promise-one-line = rw (promise-texts label k L r p blocks) (one-text-line (texts label k L r p blocks) texts-lines)
@@ -131,10 +131,10 @@ unfolding of255
 of255-length blocks = either (AtMost 23) (leb blocks 1) _ _ (omega arith) (omega arith)
 
 module _ (label : List ℕ) (k L r p blocks : ℕ) where
-  texts-length : length (oneText (texts label k L r p blocks)) ≤ length label + 142
+  texts-length : length (oneText (texts label k L r p blocks)) ≤ length label + 144
   unfolding texts lengths
   texts-length =
-      omega (arith, one-text-length (texts label k L r p blocks), word-length p, decimal-length 20 p, thumbnail-length r (ascii ", thumbnail of side "), thumbnail-length r (figure (sideOf k)), decimal-length 20 (sideOf k), decimal-length 20 (greyLimit (L - r) p), of255-length blocks)
+      omega (arith, one-text-length (texts label k L r p blocks), word-length p, decimal-length 20 p, thumbnail-length r (ascii ", thumbnail from side "), thumbnail-length r (figure (sideOf k)), decimal-length 20 (sideOf k), decimal-length 20 (greyLimit (L - r) p), of255-length blocks)
 
   module _ (bytes : List ℕ) (short : length label ≤ 8) where
     -- in room of 160 bytes the promise of a label is put as one text

@@ -19,7 +19,7 @@ pub record Said : Type 0 where
   promise : says (promiseOf (ascii "00000417") 6 2 0 2 3) "00000417 CUT, p = 2, no grey off by more than 45 of 255, if of one shot"
   thumbnail-whole : says (reportOf (ascii "00000417") 6 2 2 9 7 26312 0 (ascii "")) "WHOLE 00000417, thumbnail, side 16 of 64: 7 blocks, no more expected\n  every grey is right: the very thumbnail, if its blocks are of one shot\n  planes finished: 9 of 9, levels: 2, bits: 26312\n"
   thumbnail-cut : says (reportOf (ascii "00000417") 6 2 1 9 3 11808 2 (ascii "")) "CUT 00000417, thumbnail, side 32 of 64: 3 blocks, more expected\n  no grey is off by more than 24 of 255, if its blocks are of one shot\n  planes finished: 7 of 9, levels: 2, bits: 11808\n"
-  thumbnail-promise : says (promiseOf (ascii "00000417") 6 2 1 2 3) "00000417 CUT, p = 2, thumbnail of side 64, no grey off by more than 24 of 255, if of one shot"
+  thumbnail-promise : says (promiseOf (ascii "00000417") 6 2 1 2 3) "00000417 CUT, p = 2, thumbnail from side 64, no grey off by more than 24 of 255, if of one shot"
 
 pub said : Said
 unfolding decimal greyLimit _puts_ word sideOf ofThumbnail titled awaits plural expected counted oneShot kind worth planes reportOf of255 promiseOf

@@ -203,7 +203,7 @@ pub fn promise(
     let blank = put(b" ", line, named);
     let verdict = put_word(unfinished, line, blank);
     let left = put_figure(b", p = ", unfinished as u64, line, verdict);
-    let whose = put_of_side(b", thumbnail of side ", k, halvings, line, left);
+    let whose = put_of_side(b", thumbnail from side ", k, halvings, line, left);
     let most = put_figure(b", no grey off by more than ", limit as u64, line, whose);
     put_either(
         blocks <= 1,

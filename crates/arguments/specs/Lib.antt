@@ -1,0 +1,2 @@
+-- What a person gave a program on its command line.
+pub mod Words
