@@ -140,8 +140,8 @@ extern "C" {
 #define LABEL_STACK_BYTES 4096 /* measured, rounded up; a call's arguments, memcpy and memset are in it */
 
 /* Sizes of what a caller lends, for k from 3 to 8 and n from 0 to 18: constants where k and n are, so that
-   arrays can have them. A thumbnail has LABEL_PLACES(k - r) greys, r from 1 to L. No coding of n planes has more
-   than n(4S^2 - 1)/3 + S^2 bits. label_write needs 512 bytes of room for each block, label_read 492 for
+   arrays can have them. A thumbnail has LABEL_PLACES(k - r) greys, r from 1 to L. No coding of n planes has
+   more than n(4S^2 - 1)/3 + S^2 bits. label_write needs 512 bytes of room for each block, label_read 492 for
    each whole block that it is lent. */
 #define LABEL_PLACES(k) ((size_t)1 << (2 * (k)))
 #define LABEL_MOST_LEVELS(k) ((k) < 6 ? (k) - 1 : 5)
