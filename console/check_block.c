@@ -5,7 +5,7 @@
 #include "label.h"
 #include "seal.h"
 
-enum { COUNT = 14, PAYLOAD = 16 };
+enum { COUNT = 14, PAYLOAD = 16, ARM = 16, MOUNT = 17, PAYLOAD_2 = 20 };
 
 static uint8_t block[LABEL_BLOCK_BYTES + 1];
 
@@ -35,15 +35,42 @@ static void changed(const char *what, int place, int byte, int sealed)
     say(what, LABEL_BLOCK_BYTES);
 }
 
-/* The paper's block with a payload count, and one payload byte, sealed. */
+/* The block with a payload count, and one payload byte, sealed. */
 static void counted(const char *what, int count, int place, int byte)
 {
-    start();
     block[COUNT] = (uint8_t)(count / 256);
     block[COUNT + 1] = (uint8_t)(count % 256);
     block[place] = (uint8_t)byte;
     seal(block);
     say(what, LABEL_BLOCK_BYTES);
+}
+
+static void counted_1(const char *what, int count, int place, int byte)
+{
+    start();
+    counted(what, count, place, byte);
+}
+
+/* The same picture in edition 2, of this arm, with one byte changed, and sealed. */
+static void start_2(int arm, int place, int byte)
+{
+    start();
+    block[0] = 2;
+    block[ARM] = (uint8_t)arm;
+    block[place] = (uint8_t)byte;
+    seal(block);
+}
+
+static void changed_2(const char *what, int arm, int place, int byte)
+{
+    start_2(arm, place, byte);
+    say(what, LABEL_BLOCK_BYTES);
+}
+
+static void counted_2(const char *what, int count, int place, int byte)
+{
+    start_2(1, 0, 2);
+    counted(what, count, place, byte);
 }
 
 int main(void)
@@ -65,7 +92,8 @@ int main(void)
     block[41] = 1;
     say("A right and B wrong", 512);
 
-    changed("edition 2", 0, 2, 1);
+    changed("edition 0", 0, 0, 1);
+    changed("edition 3", 0, 3, 1);
     changed("k 2", 1, 2, 1);
     changed("k 9", 1, 9, 1);
     changed("L 0", 2, 0, 1);
@@ -77,11 +105,30 @@ int main(void)
     changed("a space before the label", 4, ' ', 1);
     changed("block number 7, which is not judged", 13, 7, 1);
 
-    counted("no bit, and the first bit set", 0, PAYLOAD, 0x80);
-    counted("1 bit, and the first bit set", 1, PAYLOAD, 0x80);
-    counted("1 bit, and the second bit set", 1, PAYLOAD, 0x40);
-    counted("3935 bits, and the last bit set", 3935, CHECKS - 1, 0x01);
-    counted("3936 bits, and the last bit set", 3936, CHECKS - 1, 0x01);
-    counted("3937 bits", 3937, PAYLOAD, 0x00);
+    counted_1("no bit, and the first bit set", 0, PAYLOAD, 0x80);
+    counted_1("1 bit, and the first bit set", 1, PAYLOAD, 0x80);
+    counted_1("1 bit, and the second bit set", 1, PAYLOAD, 0x40);
+    counted_1("3935 bits, and the last bit set", 3935, CHECKS - 1, 0x01);
+    counted_1("3936 bits, and the last bit set", 3936, CHECKS - 1, 0x01);
+    counted_1("3937 bits", 3937, PAYLOAD, 0x00);
+
+    changed_2("edition 2, arm 0", 0, MOUNT, 1);
+    changed_2("edition 2, arm 1", 1, MOUNT, 1);
+    changed_2("edition 2, arm 2", 2, MOUNT, 1);
+    changed_2("edition 2, arm 3", 3, MOUNT, 1);
+    changed_2("edition 2, arm 255", 255, MOUNT, 1);
+    changed_2("edition 2, mount 0", 1, MOUNT, 0);
+    changed_2("edition 2, mount 255", 1, MOUNT + 2, 255);
+    changed_2("edition 2, k 9", 1, 1, 9);
+    changed_2("edition 2, a small letter in the label", 1, 8, 'o');
+    start_2(1, MOUNT, 1);
+    block[MOUNT] = 2;
+    say("edition 2, mount damaged", 512);
+    counted_2("edition 2, no bit, and the first bit set", 0, PAYLOAD_2, 0x80);
+    counted_2("edition 2, 1 bit, and the first bit set", 1, PAYLOAD_2, 0x80);
+    counted_2("edition 2, 1 bit, and the second bit set", 1, PAYLOAD_2, 0x40);
+    counted_2("edition 2, 3903 bits, and the last bit set", 3903, CHECKS - 1, 0x01);
+    counted_2("edition 2, 3904 bits, and the last bit set", 3904, CHECKS - 1, 0x01);
+    counted_2("edition 2, 3905 bits", 3905, PAYLOAD_2, 0x00);
     return 0;
 }

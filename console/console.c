@@ -34,7 +34,9 @@ static const char help[] =
     "  CUT     with LABEL: every block is kept, and the picture is cut; decode says\n"
     "          what it is worth\n"
     "  BAD     a block is refused or left over, bytes are, or no block came\n"
-    "Then a line for each block; L are its levels, n its planes.\n"
+    "Then a line for each block; L are its levels, n its planes. In edition 2 one\n"
+    "more has arm and mount number: without LABEL below each good block; with LABEL\n"
+    "one for all blocks kept, and below each behind the run that is good alone.\n"
     "\n"
     "Ends with 0 if the verdict is GOOD, WHOLE or CUT; with 1 if it is BAD or there\n"
     "is none, since input or output failed; with 2 if it was called wrongly.\n";
@@ -51,6 +53,22 @@ static const uint8_t *block_at(size_t i)
 static unsigned pair_at(const uint8_t *block, size_t place)
 {
     return block[place] * 256u + block[place + 1];
+}
+
+/* Edition, arm and mount number of a block that passed, the last two 0 in edition 1. */
+static unsigned edition_of(const uint8_t *block)
+{
+    return block[0];
+}
+
+static unsigned arm_of(const uint8_t *block)
+{
+    return edition_of(block) == 2 ? block[16] : 0;
+}
+
+static unsigned mount_of(const uint8_t *block)
+{
+    return edition_of(block) == 2 ? block[17] * 65536u + pair_at(block, 18) : 0;
 }
 
 /* The label of a block that passed, as it stands there: eight characters, each 0 to 9 or A to Z. */
@@ -72,9 +90,16 @@ static const char *meaning(uint32_t refusal)
 {
     switch (refusal) {
     case LABEL_BAD_CHECK: return "damaged, a check is wrong (8)";
-    case LABEL_BAD_FIELD: return "no block of edition 1, a field is wrong (9)";
+    case LABEL_BAD_FIELD: return "no block of edition 1 or 2, a field is wrong (9)";
     default: return "no block (6)";
     }
+}
+
+/* The line that a block which passed has in edition 2 alone. */
+static void say_mount(const uint8_t *block)
+{
+    if (edition_of(block) == 2)
+        printf("    edition 2: arm %u, mount %u\n", arm_of(block), mount_of(block));
 }
 
 static void say_over(void)
@@ -108,11 +133,13 @@ static int judge_alone(void)
         const uint8_t *block = block_at(i);
         uint32_t refusal = label_block_check(block, LABEL_BLOCK_BYTES);
 
-        if (refusal)
+        if (refusal) {
             printf("  block %zu: %s\n", i, meaning(refusal));
-        else
-            printf("  block %zu: good: %s, number %u, side %u, L %u, n %u, %u bit%s\n", i, label_of(block),
-                   pair_at(block, 12), 1u << block[1], block[2], block[3], pair_at(block, 14), s(pair_at(block, 14)));
+            continue;
+        }
+        printf("  block %zu: good: %s, number %u, side %u, L %u, n %u, %u bit%s\n", i, label_of(block),
+               pair_at(block, 12), 1u << block[1], block[2], block[3], pair_at(block, 14), s(pair_at(block, 14)));
+        say_mount(block);
     }
     say_over();
     printf("not judged: their order, whether they are of one record, and whether it is of\n"
@@ -129,15 +156,25 @@ static void say_turn(size_t i, const char *label)
         printf("    its number is %u and not %zu\n", pair_at(block, 12), i);
     if (memcmp(block + 4, label, 8))
         printf("    its label is %s and not %s\n", label_of(block), label);
+    if (edition_of(block) != edition_of(record))
+        printf("    its edition is %u and not %u\n", edition_of(block), edition_of(record));
     if (memcmp(block + 1, record + 1, 3))
         printf("    its side, levels or planes are not block 0's\n");
+    /* edition 1 names no arm and no mount that could differ */
+    if (edition_of(block) != edition_of(record))
+        return;
+    if (arm_of(block) != arm_of(record))
+        printf("    its arm is %u and not %u\n", arm_of(block), arm_of(record));
+    if (mount_of(block) != mount_of(record))
+        printf("    its mount is %u and not %u\n", mount_of(block), mount_of(record));
 }
 
 static void say_ended(size_t i, uint32_t number, const char *label)
 {
     printf("  block %zu ended the run: ", i);
     if (number != LABEL_BAD_TURN) {
-        printf("it is %s\n", meaning(number));
+        /* 9's words leave no room for more behind the number of a late block */
+        printf("%s%s\n", number == LABEL_BAD_FIELD ? "" : "it is ", meaning(number));
         return;
     }
     printf("it is not the %s (10)\n", i ? "next block of this record" : "start of the record asked for");
@@ -151,10 +188,12 @@ static void say_behind(size_t i, uint32_t ended)
     uint32_t refusal = label_block_check(block, LABEL_BLOCK_BYTES);
 
     printf("  block %zu: %s; ", i, ended ? "not kept" : "not looked at by the reader");
-    if (refusal)
-        printf("%s (%u)\n", refusal == LABEL_BAD_CHECK ? "damaged" : "no block of edition 1", (unsigned)refusal);
-    else
-        printf("good alone: %s, number %u\n", label_of(block), pair_at(block, 12));
+    if (refusal) {
+        printf("%s (%u)\n", refusal == LABEL_BAD_CHECK ? "damaged" : "no block of edition 1 or 2", (unsigned)refusal);
+        return;
+    }
+    printf("good alone: %s, number %u\n", label_of(block), pair_at(block, 12));
+    say_mount(block);
 }
 
 /* The planes that the bits kept leave unfinished. */
@@ -172,6 +211,7 @@ static int judge_record(const char *label)
     uint8_t *payload = (uint8_t *)malloc(room + 1);
     struct label_kept kept;
     uint32_t ended, p = 0;
+    unsigned full;
     int all;
 
     if (!payload) {
@@ -192,6 +232,7 @@ static int judge_record(const char *label)
     }
 
     all = kept.blocks == whole;
+    full = LABEL_PAYLOAD_BITS_OF(kept.edition);
     printf("%s %s", !all || over ? "BAD" : p ? "CUT" : "WHOLE", label);
     if (kept.blocks)
         printf(", side %u", 1u << kept.k);
@@ -200,18 +241,21 @@ static int judge_record(const char *label)
     else
         printf(": %zu of %zu block%s kept", kept.blocks, whole, s(whole));
     if (all && !over)
-        printf(", %smore expected", p && kept.bits == whole * LABEL_PAYLOAD_BITS ? "" : "no ");
+        printf(", %smore expected", p && kept.bits == whole * full ? "" : "no ");
     if (over)
         printf("; %zu byte%s over", over, s(over));
     printf("\n");
+    if (kept.edition == 2)
+        printf("  edition 2: arm %u, mount %u\n", (unsigned)kept.arm, (unsigned)kept.mount);
 
     ended = kept.refusal ? kept.refusal : kept.ended;
     for (size_t i = 0; i < whole; i++) {
         unsigned bits = pair_at(block_at(i), 14);
 
-        if (i < kept.blocks)
-            printf("  block %zu: kept, %u bit%s%s\n", i, bits, s(bits),
-                   bits < LABEL_PAYLOAD_BITS ? ", fewer than 3936: the last of its record" : "");
+        if (i < kept.blocks && bits < full)
+            printf("  block %zu: kept, %u bit%s, fewer than %u: the last of its record\n", i, bits, s(bits), full);
+        else if (i < kept.blocks)
+            printf("  block %zu: kept, %u bits\n", i, bits);
         else if (i == kept.blocks && ended)
             say_ended(i, ended, label);
         else
@@ -222,7 +266,8 @@ static int judge_record(const char *label)
         printf("  planes finished: %u of %u, levels: %u, bits: %zu\n", (unsigned)(kept.n - p), (unsigned)kept.n,
                (unsigned)kept.levels, kept.bits);
     if (kept.blocks > 1)
-        printf("not judged: whether the blocks are of one shot; edition 1 can't tell\n");
+        printf("not judged: whether the blocks are of one shot; %s\n",
+               kept.edition == 2 ? "they are of one arm and mount" : "edition 1 can't tell");
     return all && !over ? WELL : NOT_WELL;
 }
 

@@ -8,7 +8,7 @@
  *     A picture into a record:
  *         label_forward    greys to wavelet numbers
  *         label_code       numbers to bits, most significant plane first
- *         label_write      bits to 512-byte blocks
+ *         label_write      bits to 512-byte blocks, of edition 1 or 2
  *     A record, whole or cut anywhere, into a picture:
  *         label_read       the longest run of good blocks, to bits
  *         label_decode     bits to numbers: what they settle, 0 elsewhere
@@ -29,6 +29,14 @@
  *     A label is eight ASCII characters, each 0 to 9 or A to Z. It is never a number: leading zeros count.
  *     Small letters and spaces are refused.
  *
+ *     A record is of edition 1 or 2. A block of edition 1 holds at most 3936 bits; one of edition 2 names the
+ *     arm that shot the picture, 1 or 2, and a mount number, 0 to 16777215, and holds at most 3904.
+ *     label_write makes the edition that it is asked for; label_read and label_block_check take both, and
+ *     label_read gives edition, arm and mount, the last two 0 in edition 1. What was made before version
+ *     0.5.0 knows edition 1 alone, and refuses by 9 every block of edition 2 whose checks are right.
+ *     Code that was compiled with a page before 0.5.0 has to be compiled anew, also if it only reads: struct
+ *     label_kept is longer. A kept block is full at LABEL_PAYLOAD_BITS_OF(kept.edition) bits.
+ *
  *     Nothing is allocated and nothing is kept between calls; a call takes at most LABEL_STACK_BYTES of
  *     stack. A slice is a pointer and a count of elements. No slice that is written to overlaps another (two
  *     that are only read may, as a label within the blocks). A pointer is never NULL, not even where the
@@ -44,7 +52,7 @@
  *     that than (7(L - r) + 1)(2^p - 1).
  *
  *     All this is of the blocks of one coding: blocks of two shots under one label, with the same k, L and n,
- *     splice unnoticed in edition 1. The mount number of edition 2, to come, closes that.
+ *     splice unnoticed in edition 1, and in edition 2 only if arm and mount number are the same too.
  *
  *     Was a coding cut by what label_code was lent? Not if `bits` is below both `limit` and 8 x bytes_count.
  *     If it equals one of them, label_decode tells: of these bits, `unfinished` is 0 exactly if they are all.
@@ -52,8 +60,9 @@
  *
  * REFUSALS
  *     `refusal` is 0, LABEL_OK, or the lowest of these that applies; but 13, which label_thumbnail alone has,
- *     is judged after 2 and before 3. A refused call answers 0 for all else and changes no byte and no number
- *     that it was lent. There is no 11 and no 12 yet.
+ *     is judged after 2 and before 3, and label_write judges the edition, which is 9, just before 6. A
+ *     refused call answers 0 for all else and changes no byte and no number that it was lent. There is no 11
+ *     and no 12 yet.
  *      1  LABEL_BAD_SIDE      k not in 3..8
  *      2  LABEL_BAD_LEVELS    L not in its range
  *      3  LABEL_BAD_LENGTH    picture, number or working slice not S x S long; label_thumbnail: numbers not
@@ -65,9 +74,11 @@
  *                             each whole block lent; label_block_check: not 512 bytes
  *      7  LABEL_BAD_LABEL     the label given is not eight characters, 0-9 or A-Z
  *      8  LABEL_BAD_CHECK     a block's check A or B is wrong: it is damaged
- *      9  LABEL_BAD_FIELD     a block's edition, k, L, n, label, payload count or an unused bit is wrong
- *     10  LABEL_BAD_TURN      a block's number is out of turn, its bytes 0 to 11 are unlike block 0's, or its
- *                             label is unlike the one expected
+ *      9  LABEL_BAD_FIELD     a block's edition, k, L, n, label, arm, payload count or an unused bit is
+ *                             wrong; label_write: the edition is not 1 or 2, judged just before 6; or in
+ *                             edition 2 arm is not 1 or 2, or mount above 16777215, judged after 7
+ *     10  LABEL_BAD_TURN      a block's number is out of turn, its bytes 0 to 11, in edition 2 also 16 to 19,
+ *                             are unlike block 0's, or its label is unlike the one expected
  *     13  LABEL_BAD_HALVINGS  r not in 1..L
  *
  * EXAMPLE
@@ -75,6 +86,7 @@
  *     #include "label.h"
  *
  *     enum { K = 6, L = 2, PLACES = LABEL_PLACES(K), BLOCKS = LABEL_MOST_BLOCKS(K, LABEL_MOST_PLANES) };
+ *     enum { EDITION = 2, ARM = 1, MOUNT = 70123 };
  *     static const uint8_t name[] = {'0', '0', '0', '0', '0', '4', '1', '7'};
  *     static uint8_t picture[PLACES], bits[BLOCKS * LABEL_PAYLOAD_BYTES], record[BLOCKS * LABEL_BLOCK_BYTES];
  *     static int32_t numbers[PLACES], room[PLACES];
@@ -87,7 +99,7 @@
  *         // a picture into a record
  *         struct label_planes planes = label_forward(K, L, picture, PLACES, numbers, PLACES);
  *         struct label_written coded = label_code(K, L, numbers, PLACES, SIZE_MAX, bits, sizeof bits);
- *         struct label_blocks made = label_write(K, L, coded.n, name, sizeof name,
+ *         struct label_blocks made = label_write(K, L, coded.n, EDITION, ARM, MOUNT, name, sizeof name,
  *                                                bits, sizeof bits, coded.bits, record, sizeof record);
  *         if (planes.refusal || coded.refusal || made.refusal)
  *             return 1;
@@ -101,8 +113,9 @@
  *                                          picture, PLACES, room, PLACES);
  *         if (kept.refusal || cut.refusal || refusal)
  *             return 1;
- *         printf("%zu of %zu blocks kept, %u of %u planes unfinished\n",
- *                kept.blocks, made.blocks, (unsigned)cut.unfinished, (unsigned)kept.n);
+ *         printf("arm %u, mount %u: %zu of %zu blocks kept, %u of %u planes unfinished\n",
+ *                (unsigned)kept.arm, (unsigned)kept.mount, kept.blocks, made.blocks,
+ *                (unsigned)cut.unfinished, (unsigned)kept.n);
  *         return 0;
  *     }
  *
@@ -128,26 +141,33 @@ extern "C" {
 #endif
 
 #define LABEL_VERSION_MAJOR 0
-#define LABEL_VERSION_MINOR 4
+#define LABEL_VERSION_MINOR 5
 #define LABEL_VERSION_PATCH 0
-#define LABEL_VERSION "0.4.0"
+#define LABEL_VERSION "0.5.0"
 
+/* LABEL_PAYLOAD_BYTES and LABEL_PAYLOAD_BITS are those of edition 1; of whichever edition the blocks are,
+   label_read asks for LABEL_PAYLOAD_BYTES of room a block. LABEL_PAYLOAD_BITS_OF takes edition 1 or 2; of a
+   label_kept that is refused, whose edition is 0, it means nothing. */
 #define LABEL_BLOCK_BYTES 512
 #define LABEL_PAYLOAD_BYTES 492
 #define LABEL_PAYLOAD_BITS 3936
+#define LABEL_PAYLOAD_BITS_OF(edition) ((edition) == 1 ? LABEL_PAYLOAD_BITS : 3904)
 #define LABEL_NUMBER_LIMIT 262143
 #define LABEL_MOST_PLANES 18
+#define LABEL_MOST_MOUNT 16777215
 #define LABEL_STACK_BYTES 4096 /* measured, rounded up; a call's arguments, memcpy and memset are in it */
 
 /* Sizes of what a caller lends, for k from 3 to 8 and n from 0 to 18: constants where k and n are, so that
    arrays can have them. A thumbnail has LABEL_PLACES(k - r) greys, r from 1 to L. No coding of n planes has
-   more than n(4S^2 - 1)/3 + S^2 bits. label_write needs 512 bytes of room for each block, label_read 492 for
-   each whole block that it is lent. */
+   more than n(4S^2 - 1)/3 + S^2 bits. LABEL_MOST_BLOCKS is enough in either edition: it counts the blocks of
+   edition 2, which hold less. label_write needs 512 bytes of room for each block, label_read 492 for each
+   whole block that it is lent. */
 #define LABEL_PLACES(k) ((size_t)1 << (2 * (k)))
 #define LABEL_MOST_LEVELS(k) ((k) < 6 ? (k) - 1 : 5)
 #define LABEL_MOST_BITS(k, n) ((size_t)(n) * ((4 * LABEL_PLACES(k) - 1) / 3) + LABEL_PLACES(k))
 #define LABEL_MOST_BYTES(k, n) ((LABEL_MOST_BITS(k, n) + 7) / 8)
-#define LABEL_MOST_BLOCKS(k, n) ((LABEL_MOST_BITS(k, n) + LABEL_PAYLOAD_BITS - 1) / LABEL_PAYLOAD_BITS)
+#define LABEL_MOST_BLOCKS(k, n) \
+    ((LABEL_MOST_BITS(k, n) + LABEL_PAYLOAD_BITS_OF(2) - 1) / LABEL_PAYLOAD_BITS_OF(2))
 
 enum label_refusal {
     LABEL_OK = 0,
@@ -199,27 +219,32 @@ uint32_t label_thumbnail(uint32_t k, uint32_t levels, uint32_t halvings,
                          uint8_t *picture, size_t picture_count,
                          int32_t *room, size_t room_count);
 
-/* Writes the record of the first b bits at the front of `room`; gives its count of blocks.
-   Refusals 1, 2, 5, 6, 7. */
+/* Writes the record of the first b bits at the front of `room`, in the edition asked for, 1 or 2; gives its
+   count of blocks. In edition 2 each of them names `arm` and `mount`; in edition 1 the two are ignored. The
+   three are of one type: if an arm 1 lands in `edition`, arm and mount are ignored without a word, and only
+   the `edition` that label_read gives back, 1, tells.
+   Refusals, judged in this order: 1, 2, 5, 9 (edition), 6, 7, 9 (arm, mount). */
 struct label_blocks { uint32_t refusal; size_t blocks; };
 struct label_blocks label_write(uint32_t k, uint32_t levels, uint32_t n,
+                                uint32_t edition, uint32_t arm, uint32_t mount,
                                 const uint8_t *label, size_t label_count,
                                 const uint8_t *bytes, size_t bytes_count, size_t b,
                                 uint8_t *room, size_t room_count);
 
 /* Keeps the longest run of good blocks from the front: k, L, n, the blocks kept, their bits, and the number
-   (8, 9, 10) that ended the run, 0 if none. Their payload stands at the front of `room`.
-   Refusals 6, 7, 8, 9, 10. */
+   (8, 9, 10) that ended the run, 0 if none; then their edition, arm and mount, the last two 0 in edition 1.
+   Their payload stands at the front of `room`. Refusals 6, 7, 8, 9, 10. */
 struct label_kept {
     uint32_t refusal; uint32_t k; uint32_t levels; uint32_t n; size_t blocks; size_t bits; uint32_t ended;
+    uint32_t edition; uint32_t arm; uint32_t mount;
 };
 struct label_kept label_read(const uint8_t *blocks, size_t blocks_count,
                              const uint8_t *label, size_t label_count,
                              uint8_t *room, size_t room_count);
 
-/* Judges one block, but not its number: 0, 6, 8 or 9. If its checks were right, and one or two of its bytes
-   were changed in place since, or two unequal ones exchanged, it is always 8; if three were, not always
-   (docs/FORMAT.md). */
+/* Judges one block, of either edition, but not its number: 0, 6, 8 or 9. If its checks were right, and one or
+   two of its bytes were changed in place since, or two unequal ones exchanged, it is always 8; if three were,
+   not always (docs/FORMAT.md). */
 uint32_t label_block_check(const uint8_t *block, size_t block_count);
 
 #ifdef __cplusplus

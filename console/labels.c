@@ -40,7 +40,7 @@ static uint32_t written(const uint8_t *label, size_t count)
     struct label_blocks made;
 
     memset(room, LENT, sizeof room);
-    made = label_write(K, L, N, label, count, page + 16, USED, BITS, room, sizeof room);
+    made = label_write(K, L, N, 1, 0, 0, label, count, page + 16, USED, BITS, room, sizeof room);
     if (made.blocks != (made.refusal ? 0 : 1))
         fail("the writer's blocks");
     return looked_at(made.refusal, LABEL_BLOCK_BYTES);
@@ -53,11 +53,13 @@ static uint32_t asked_for(const uint8_t *label, size_t count)
 
     memset(room, LENT, sizeof room);
     kept = label_read(block, sizeof block, label, count, room, sizeof room);
-    if (kept.refusal && (kept.k || kept.levels || kept.n || kept.blocks || kept.bits || kept.ended))
+    if (kept.refusal
+        && (kept.k || kept.levels || kept.n || kept.blocks || kept.bits || kept.ended
+            || kept.edition || kept.arm || kept.mount))
         fail("the reader refused, and answered more");
     if (!kept.refusal
         && (kept.k != K || kept.levels != L || kept.n != N || kept.blocks != 1 || kept.bits != BITS || kept.ended
-            || memcmp(room, page + 16, USED)))
+            || kept.edition != 1 || kept.arm || kept.mount || memcmp(room, page + 16, USED)))
         fail("the reader kept something else");
     return looked_at(kept.refusal, USED);
 }
@@ -81,7 +83,7 @@ static void journey(void)
     numbers[0] = 5;
     coded = label_code(K, L, numbers, PLACES, SIZE_MAX, bytes, sizeof bytes);
     memset(room, LENT, sizeof room);
-    made = label_write(K, L, coded.n, page + LABEL, LONG, bytes, sizeof bytes, coded.bits, room, sizeof room);
+    made = label_write(K, L, coded.n, 1, 0, 0, page + LABEL, LONG, bytes, sizeof bytes, coded.bits, room, sizeof room);
     if (coded.refusal || looked_at(made.refusal, LABEL_BLOCK_BYTES))
         fail("0417AAL6 is refused");
     printf("the numbers 5, 0, 0, .. 0 under 0417AAL6: %u planes, %zu bits, %zu block\n", (unsigned)coded.n, coded.bits,

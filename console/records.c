@@ -22,8 +22,8 @@ static void fail(const char *what)
     exit(1);
 }
 
-/* The record of a ramp with a bar across it, with a limit of bits. */
-static void make(uint32_t k, const char *label, size_t limit)
+/* The record of a ramp with a bar across it, with a limit of bits; of edition 2 where there is an arm. */
+static void make_by(uint32_t arm, uint32_t mount, uint32_t k, const char *label, size_t limit)
 {
     size_t side = (size_t)1 << k;
     struct label_written coded;
@@ -34,10 +34,16 @@ static void make(uint32_t k, const char *label, size_t limit)
     if (label_forward(k, 2, picture, side * side, numbers, side * side).refusal)
         fail("label_forward refused");
     coded = label_code(k, 2, numbers, side * side, limit, bytes, sizeof bytes);
-    made = label_write(k, 2, coded.n, (const uint8_t *)label, 8, bytes, sizeof bytes, coded.bits, record, sizeof record);
+    made = label_write(k, 2, coded.n, arm ? 2 : 1, arm, mount, (const uint8_t *)label, 8, bytes, sizeof bytes, coded.bits,
+                       record, sizeof record);
     if (coded.refusal || made.refusal)
         fail("label_code or label_write refused");
     blocks = made.blocks;
+}
+
+static void make(uint32_t k, const char *label, size_t limit)
+{
+    make_by(0, 0, k, label, limit);
 }
 
 static uint8_t *block_at(size_t i)
@@ -99,7 +105,7 @@ int main(int argc, char **argv)
     put_all("limited-to-5000-bits", "wb");
     make(3, "00000417", 0);
     put_all("limited-to-no-bit", "wb");
-    if (label_write(3, 2, 0, (const uint8_t *)"00000417", 8, bytes, 0, 0, record, sizeof record).blocks != 1)
+    if (label_write(3, 2, 0, 1, 0, 0, (const uint8_t *)"00000417", 8, bytes, 0, 0, record, sizeof record).blocks != 1)
         fail("label_write refused");
     put_all("flat", "wb");
 
@@ -129,9 +135,29 @@ int main(int argc, char **argv)
     block_at(0)[508] ^= 1;
     put_all("block-0-damaged", "wb");
     make(6, "00000417", SIZE_MAX);
-    block_at(0)[0] = 2;
+    block_at(0)[0] = 3;
     seal(block_at(0));
-    put_all("block-0-of-edition-2", "wb");
+    put_all("block-0-of-edition-3", "wb");
+
+    /* edition 2: whole and cut, with blocks of another edition, arm and mount behind, and block 2 of arm 3, which is none */
+    make_by(1, 70123, 6, "00000417", SIZE_MAX);
+    put_all("arm-1", "wb");
+    put("arm-1-two-blocks", "wb", 0, 2 * LABEL_BLOCK_BYTES);
+    put("arm-1-then-edition-1", "wb", 0, LABEL_BLOCK_BYTES);
+    put("arm-1-then-arm-2", "wb", 0, 2 * LABEL_BLOCK_BYTES);
+    put("arm-1-all-wrong", "wb", 0, LABEL_BLOCK_BYTES);
+    block_at(2)[16] = 3;
+    seal(block_at(2));
+    put_all("arm-1-block-2-of-arm-3", "wb");
+    make(6, "00000417", SIZE_MAX);
+    put("arm-1-then-edition-1", "ab", LABEL_BLOCK_BYTES, (blocks - 1) * LABEL_BLOCK_BYTES);
+    put("edition-1-then-arm-1", "wb", 0, LABEL_BLOCK_BYTES);
+    make_by(2, LABEL_MOST_MOUNT, 6, "00000417", SIZE_MAX);
+    put("arm-1-then-arm-2", "ab", 2 * LABEL_BLOCK_BYTES, (blocks - 2) * LABEL_BLOCK_BYTES);
+    make_by(2, LABEL_MOST_MOUNT, 7, "00000418", SIZE_MAX);
+    put("arm-1-all-wrong", "ab", 5 * LABEL_BLOCK_BYTES, LABEL_BLOCK_BYTES);
+    make_by(1, 70123, 6, "00000417", SIZE_MAX);
+    put("edition-1-then-arm-1", "ab", LABEL_BLOCK_BYTES, (blocks - 1) * LABEL_BLOCK_BYTES);
 
     /* a label with a media type; then block 2 has it in small letters, which is no label, and its checks are right */
     make(6, "0417AAL6", SIZE_MAX);

@@ -1,9 +1,9 @@
 /*
  * The sizes that label.h gives, held to a plain count and to the library: sizes [LARGEST_K]. At every k and n the most
  * bits, bytes and blocks are counted here once more, from what a walk can ask at most, and label_write takes that much
- * and refuses more. Numbers that need n planes, by chance and as bad as can be, are coded within these sizes, and
- * label.h's rule for a coding that was cut tells the truth; at every number of bits where there are few. A thumbnail is
- * made in the places that label.h says, and not in one more or fewer.
+ * in either edition and refuses more. Numbers that need n planes, by chance and as bad as can be, are coded within these
+ * sizes, and label.h's rule for a coding that was cut tells the truth; at every number of bits where there are few. A
+ * thumbnail is made in the places that label.h says, and not in one more or fewer.
  */
 #include <stdio.h>
 #include <stdlib.h>
@@ -18,7 +18,8 @@ static const uint8_t label[8] = {'0', '0', '0', '0', '0', '4', '1', '7'};
 /* constants: arrays have these sizes */
 static int32_t numbers[LABEL_PLACES(8)], settled[LABEL_PLACES(8)];
 static uint8_t record[(LABEL_MOST_BLOCKS(8, LABEL_MOST_PLANES) + 1) * LABEL_BLOCK_BYTES];
-_Static_assert(LABEL_MOST_LEVELS(3) == 2 && LABEL_MOST_LEVELS(8) == 5 && LABEL_MOST_BITS(3, 0) == 64, "constants");
+_Static_assert(LABEL_MOST_LEVELS(3) == 2 && LABEL_MOST_LEVELS(8) == 5 && LABEL_MOST_BITS(3, 0) == 64
+               && LABEL_PAYLOAD_BITS_OF(1) == 3936 && LABEL_PAYLOAD_BITS_OF(2) == 3904, "constants");
 
 static void hold(int truth, const char *what, unsigned k, unsigned levels, unsigned n)
 {
@@ -49,11 +50,22 @@ static uint32_t chance(void)
     return state >> 8;
 }
 
+/* The blocks of a record of so many bits, counted plainly. */
+static size_t blocks_of(unsigned edition, size_t bits)
+{
+    size_t blocks = 0;
+
+    do
+        blocks++;
+    while (blocks * (edition == 1 ? 3936 : 3904) < bits);
+    return blocks;
+}
+
 /* The sizes, counted plainly: in each plane a test for each set of 4, 16 and so on to all places, and a bit for each
    number; once, a sign for each number. */
 static void count(unsigned k, unsigned n)
 {
-    size_t places = 0, bits = 0, bytes = 0, blocks = 0;
+    size_t places = 0, bits = 0, bytes = 0;
 
     for (unsigned row = 0; row < 1u << k; row++)
         for (unsigned column = 0; column < 1u << k; column++)
@@ -69,27 +81,32 @@ static void count(unsigned k, unsigned n)
     while (bytes * 8 < bits)
         bytes++;
     hold(LABEL_MOST_BYTES(k, n) == bytes, "LABEL_MOST_BYTES", k, 0, n);
-    do
-        blocks++;
-    while (blocks * 3936 < bits);
-    hold(LABEL_MOST_BLOCKS(k, n) == blocks, "LABEL_MOST_BLOCKS", k, 0, n);
+    hold(LABEL_MOST_BLOCKS(k, n) == blocks_of(2, bits), "LABEL_MOST_BLOCKS", k, 0, n);
 }
 
-/* label_write takes the most bits that n planes can have, in the room that label.h says, and no bit more. */
-static void write_most(unsigned k, unsigned levels, unsigned n)
+static struct label_blocks write_in(unsigned edition, unsigned k, unsigned levels, unsigned n, const uint8_t *bytes,
+                                    size_t count, size_t bits, uint8_t *room, size_t lent)
+{
+    return label_write(k, levels, n, edition, 1, LABEL_MOST_MOUNT, label, sizeof label, bytes, count, bits, room, lent);
+}
+
+/* label_write takes the most bits that n planes can have, in the room that label.h says, and no bit more; in the room
+   of the edition's own blocks, and in no byte less. */
+static void write_most(unsigned edition, unsigned k, unsigned levels, unsigned n)
 {
     size_t bits = LABEL_MOST_BITS(k, n), count = LABEL_MOST_BYTES(k, n);
-    size_t blocks = LABEL_MOST_BLOCKS(k, n), room = blocks * LABEL_BLOCK_BYTES;
+    size_t blocks = blocks_of(edition, bits), room = blocks * LABEL_BLOCK_BYTES;
     uint8_t *bytes = lend(count), *lent = lend(room);
     struct label_blocks made;
 
-    made = label_write(k, levels, n, label, sizeof label, bytes, count, bits, lent, room);
+    hold(blocks <= LABEL_MOST_BLOCKS(k, n), "no record above the most blocks", k, levels, n);
+    made = write_in(edition, k, levels, n, bytes, count, bits, lent, room);
     hold(made.refusal == LABEL_OK && made.blocks == blocks, "the most bits in the most blocks", k, levels, n);
-    made = label_write(k, levels, n, label, sizeof label, bytes, count, bits, lent, room - 1);
+    made = write_in(edition, k, levels, n, bytes, count, bits, lent, room - 1);
     hold(made.refusal == LABEL_BAD_ROOM, "a byte of room too few", k, levels, n);
     free(bytes);
     bytes = lend(count + 1);
-    made = label_write(k, levels, n, label, sizeof label, bytes, count + 1, bits + 1, record, sizeof record);
+    made = write_in(edition, k, levels, n, bytes, count + 1, bits + 1, record, sizeof record);
     hold(made.refusal == LABEL_BAD_ROOM, "a bit more than the most", k, levels, n);
     free(bytes);
     free(lent);
@@ -146,8 +163,10 @@ static void code(unsigned k, unsigned levels, unsigned n, int flat)
     hold(label_decode(k, levels, n, settled, LABEL_PLACES(k), bytes, most, all).unfinished == 0
          && !memcmp(numbers, settled, LABEL_PLACES(k) * sizeof numbers[0]), "nothing is cut in the most bytes", k, levels, n);
     lent = lend(LABEL_MOST_BLOCKS(k, n) * LABEL_BLOCK_BYTES);
-    made = label_write(k, levels, n, label, sizeof label, bytes, most, all, lent, LABEL_MOST_BLOCKS(k, n) * LABEL_BLOCK_BYTES);
-    hold(made.refusal == LABEL_OK, "a coding in the most blocks", k, levels, n);
+    for (unsigned edition = 1; edition <= 2; edition++) {
+        made = write_in(edition, k, levels, n, bytes, most, all, lent, LABEL_MOST_BLOCKS(k, n) * LABEL_BLOCK_BYTES);
+        hold(made.refusal == LABEL_OK, "a coding in the most blocks", k, levels, n);
+    }
     free(lent);
     free(bytes);
 
@@ -214,7 +233,8 @@ int main(int argc, char **argv)
             count(k, n);
             /* the largest pictures at the fewest and at the most levels only, and at few n, for time */
             for (unsigned levels = 1; levels <= most; levels += k < 7 ? 1 : most - 1) {
-                write_most(k, levels, n);
+                write_most(1, k, levels, n);
+                write_most(2, k, levels, n);
                 if (k < 6 || n == 1 || n % 9 == 0) {
                     code(k, levels, n, 0);
                     code(k, levels, n, 1);
@@ -235,5 +255,7 @@ int main(int argc, char **argv)
     numbers[0] = -LABEL_NUMBER_LIMIT - 1;
     hold(label_code(3, 1, numbers, 64, 0, record, 0).refusal == LABEL_BAD_NUMBER, "a larger number", 3, 1, 18);
     hold(LABEL_PAYLOAD_BITS == 8 * LABEL_PAYLOAD_BYTES, "LABEL_PAYLOAD_BITS", 3, 1, 18);
+    hold(label_write(3, 1, 0, 2, 1, LABEL_MOST_MOUNT + 1, label, sizeof label, label, 0, 0, record, sizeof record).refusal
+         == LABEL_BAD_FIELD, "a larger mount number", 3, 1, 18);
     return 0;
 }

@@ -29,7 +29,7 @@ static uint8_t *stack, *view;
 static uint8_t picture[LABEL_PLACES(MOST_K)], bytes[ROOM * LABEL_PAYLOAD_BYTES], record[ROOM * LABEL_BLOCK_BYTES];
 static int32_t numbers[LABEL_PLACES(MOST_K)], room[LABEL_PLACES(MOST_K)];
 static const uint8_t label[8] = {'0', '0', '0', '0', '0', '4', '1', '7'};
-static uint32_t k, levels, halvings, n, refusal;
+static uint32_t k, levels, halvings, n, edition, refusal;
 static size_t places, bits, blocks;
 
 static void forward(void)
@@ -65,8 +65,8 @@ static void thumbnail(void)
 
 static void write_record(void)
 {
-    struct label_blocks made = label_write(k, levels, n, label, sizeof label, bytes, sizeof bytes, bits,
-                                           record, sizeof record);
+    struct label_blocks made = label_write(k, levels, n, edition, 2, LABEL_MOST_MOUNT, label, sizeof label,
+                                           bytes, sizeof bytes, bits, record, sizeof record);
     refusal = made.refusal;
     blocks = made.blocks;
 }
@@ -154,9 +154,11 @@ static void tour(int kind)
     if (kind == 2)
         measure(FORWARD);
     measure(CODE);
-    measure(WRITE);
-    measure(CHECK);
-    measure(READ);
+    for (edition = 1; edition <= 2; edition++) {
+        measure(WRITE);
+        measure(CHECK);
+        measure(READ);
+    }
     measure(DECODE);
     measure(INVERSE);
     for (halvings = 1; halvings <= levels; halvings++)

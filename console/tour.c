@@ -1,5 +1,5 @@
-/* A picture's whole journey through the archive, from C: into a record, and out of it whole and cut, with every thumbnail,
-   at every size up to the largest k given: tour [LARGEST_K]. */
+/* A picture's whole journey through the archive, from C: into a record of each edition, and out of it whole and cut, with
+   every thumbnail, at every size up to the largest k given: tour [LARGEST_K]. */
 #include <stdio.h>
 #include <stdlib.h>
 
@@ -55,8 +55,8 @@ static unsigned long thumbnail_off(uint32_t k, uint32_t levels, uint32_t halving
     return largest;
 }
 
-/* What the first blocks of the record show: the planes unfinished, and the largest error against the promised one; then
-   of each thumbnail. */
+/* What the first blocks of the record show: edition, arm and mount, the planes unfinished, and the largest error against
+   the promised one; then of each thumbnail. */
 static void out(uint32_t k, size_t places, size_t blocks)
 {
     struct label_kept kept;
@@ -75,7 +75,9 @@ static void out(uint32_t k, size_t places, size_t blocks)
             largest = off;
     }
     promised = (7ul * kept.levels + 1) * ((1ul << settled.unfinished) - 1);
-    printf("  %zu of its blocks: %zu bits, %u planes unfinished, %s\n", kept.blocks, kept.bits, (unsigned)settled.unfinished,
+    printf("  %zu of its blocks: edition %u, arm %u, mount %u, %zu bits\n", kept.blocks, (unsigned)kept.edition,
+           (unsigned)kept.arm, (unsigned)kept.mount, kept.bits);
+    printf("    %u planes unfinished, %s\n", (unsigned)settled.unfinished,
            largest > promised ? "WORSE THAN PROMISED" : settled.unfinished == 0 ? "the very picture" : "as good as promised");
     for (uint32_t r = 1; r <= kept.levels; r++)
         worse |= thumbnail_off(k, kept.levels, r) > (7ul * (kept.levels - r) + 1) * ((1ul << settled.unfinished) - 1);
@@ -92,20 +94,24 @@ int main(int argc, char **argv)
         uint32_t levels = LABEL_MOST_LEVELS(k);
         struct label_planes planes;
         struct label_written written;
-        struct label_blocks blocks;
 
         draw((size_t)1 << k);
         planes = label_forward(k, levels, picture, places, numbers, places);
         written = label_code(k, levels, numbers, places, SIZE_MAX, bytes, sizeof bytes);
-        blocks = label_write(k, levels, written.n, label, sizeof label, bytes, sizeof bytes, written.bits,
-                             record, sizeof record);
-        if (planes.refusal || written.refusal || blocks.refusal || planes.n != written.n)
+        if (planes.refusal || written.refusal || planes.n != written.n)
             refused();
-        printf("side %u, %u levels: %u planes, %zu bits, %zu %s\n", 1u << k, (unsigned)levels, (unsigned)planes.n,
-               written.bits, blocks.blocks, blocks.blocks == 1 ? "block" : "blocks");
-        out(k, places, blocks.blocks);
-        if (blocks.blocks > 1)
-            out(k, places, blocks.blocks / 2);
+        for (uint32_t edition = 1; edition <= 2; edition++) {
+            /* edition 1 has no place for the arm and the mount number that it is given */
+            struct label_blocks blocks = label_write(k, levels, written.n, edition, 1 + k % 2, 70120 + k, label, sizeof label,
+                                                     bytes, sizeof bytes, written.bits, record, sizeof record);
+            if (blocks.refusal)
+                refused();
+            printf("side %u, %u levels, edition %u: %u planes, %zu bits, %zu %s\n", 1u << k, (unsigned)levels,
+                   (unsigned)edition, (unsigned)planes.n, written.bits, blocks.blocks, blocks.blocks == 1 ? "block" : "blocks");
+            out(k, places, blocks.blocks);
+            if (blocks.blocks > 1)
+                out(k, places, blocks.blocks / 2);
+        }
     }
     return 0;
 }

@@ -15,39 +15,41 @@ are left, from the front, show all of it, less exactly. FORMAT.md has the rules.
 The promise: with p of n planes unfinished and L levels no grey is off by more
 than (7L + 1)(2^p - 1), and with p = 0 it is the very picture; if all blocks are
 of one shot. Blocks of two shots under one label with the same k, L and n splice
-unnoticed in edition 1, read here; edition 2's mount number (to come) closes it.
+unnoticed in edition 1, and in 2 only if arm and mount number are the same too.
 """
 import os, sys
 
 def is_label(text): return len(text) == 8 and all('0' <= c <= '9' or 'A' <= c <= 'Z' for c in text)
+def named(b): return (b[16], int.from_bytes(b[17:20], 'big')) if b[0] == 2 else ()  # arm, mount
+def full(b): return 3904 if b[0] == 2 else 3936  # the bits that a block of its edition holds
 
 def blocks_kept(record, asked):
     """Which blocks a reader keeps: their bits, how many they are, what is wrong with the next."""
-    bits, kept, bad = [], 0, []
-    while not bad and len(bits) == 3936 * kept and len(record) >= 512 * (kept + 1):
+    bits, kept, bad, due = [], 0, [], ('start of the record asked for', 'next block of this record')
+    while not bad and len(bits) == full(record) * kept and len(record) >= 512 * (kept + 1):
         block = record[512 * kept:512 * (kept + 1)]
         (edition, k, L, n), label = block[:4], block[4:12].decode('latin-1')
         number, count, A, B = [256 * block[i] + block[i + 1] for i in (12, 14, 508, 510)]
-        payload = [block[i // 8] >> (7 - i % 8) & 1 for i in range(8 * 16, 8 * 508)]
-        weighed = [(i + 1) * block[i] for i in range(508)]
-        if A != sum(block[:508]) % 65521 or B != sum(weighed) % 65521:
-            bad = ['damaged, a check is wrong (8)']
-        elif (edition != 1 or not 3 <= k <= 8 or not 1 <= L <= min(5, k - 1) or n > 18
-              or not is_label(label) or count > 3936 or any(payload[count:])):
-            bad = ['no block of edition 1, a field is wrong (9)']
+        payload = [block[i // 8] >> (7 - i % 8) & 1 for i in range(8 * 508 - full(block), 8 * 508)]
+        sums = sum(block[:508]) % 65521, sum((i + 1) * block[i] for i in range(508)) % 65521
+        if (A, B) != sums: bad = ['damaged, a check is wrong (8)']
+        elif (edition not in (1, 2) or not 3 <= k <= 8 or not 1 <= L <= min(5, k - 1) or n > 18
+              or not is_label(label) or edition == 2 and named(block)[0] not in (1, 2)
+              or count > full(block) or any(payload[count:])):  # 80 columns: less from 100 on
+            bad = ['no block of edition 1 or 2%s (9)' % (', a field is wrong' * (kept < 100))]
         else:
-            if number != kept: bad += ['    its number is %d and not %d' % (number, kept)]
-            if label != asked: bad += ['    its label is %s and not %s' % (label, asked)]
-            if block[:4] != record[:4]: bad += ["    its side, levels or planes are not block 0's"]
-            turn = 'next block of this record' if kept else 'start of the record asked for'
-            if bad: bad = ['not the %s (10)' % turn] + bad
+            its = zip(('number', 'label', 'edition', '', 'arm', 'mount'),
+                      (number, label, edition, block[1:4]) + named(block),
+                      (kept, asked, record[0], record[1:4]) + named(record))  # two editions: no arm
+            side = "    its side, levels or planes are not block 0's"
+            bad = ['    its %s is %s and not %s' % i if i[0] else side for i in its if i[1] != i[2]]
+            if bad: bad = ['not the %s (10)' % due[kept > 0]] + bad
             else: bits, kept = bits + payload[:count], kept + 1
     return bits, kept, bad
 
 def wavelet_numbers(bits, k, L, n):
     """From bits to wavelet numbers, in Z order, and p, the number of unfinished planes."""
-    S, p, bits = 2 ** k, n, iter(bits)
-    magnitude, sign = [0] * S ** 2, [1] * S ** 2
+    S, p, bits, magnitude, sign = 2 ** k, n, iter(bits), [0] * 4 ** k, [1] * 4 ** k
     def is_open(start, end): return max(magnitude[start:end]) >= 2 * T or next(bits) == 1
     def read_set(start, length):
         if length == 1: read_number(start)
@@ -85,24 +87,23 @@ def greys(x, k, L, r):
 
 def opened(label, record, R=''):
     """What is said of a record, and its picture, the side halved R times: none if it is refused."""
-    short = 'REFUSED: no whole block came, only %d of 512 bytes (6)' % len(record)
-    no_label = 'REFUSED: a label is eight characters, 0-9 or A-Z; leading zeros count (7)'
-    if len(record) < 512: return [short], b''
-    if not is_label(label): return [no_label], b''
-    bits, kept, bad = blocks_kept(record, label)
+    six = 'REFUSED: no whole block came, only %d of 512 bytes (6)' % len(record)
+    seven = 'REFUSED: a label is eight characters, 0-9 or A-Z; leading zeros count (7)'
+    if len(record) < 512 or not is_label(label): return [six if len(record) < 512 else seven], b''
+    (bits, kept, bad), (k, L, n) = blocks_kept(record, label), record[1:4]
     if kept == 0: return ['REFUSED %s: block 0 is %s' % (label, bad[0])] + bad[1:], b''
-    k, L, n = record[1], record[2], record[3]
     if R and R.lstrip('0') not in list('12345'[:L]):
         return ['REFUSED %s: R goes from 1 to %d, the levels of this record (13)' % (label, L)], b''
     numbers, p = wavelet_numbers(bits, k, L, n)
     S, r, s, what = 2 ** k, int(R[-1:] or 0), 's' * (kept > 1), 'thumbnail' if R else 'picture'
-    side, limit = S // 2 ** r, min(255, (7 * (L - r) + 1) * (2 ** p - 1))
+    side, limit, gap = S // 2 ** r, min(255, (7 * (L - r) + 1) * (2 ** p - 1)), ' '
     verdict, worth = 'CUT', 'no grey is off by more than %d of 255' % limit
     if limit == 255: worth = 'any grey may be wrong: too little is left to promise more'
     if p == 0: verdict, worth = 'WHOLE', 'every grey is right: the very ' + what
-    more = 'more' if p > 0 and len(bits) == 3936 * kept else 'no more'
+    more = 'more' if p > 0 and len(bits) == full(record) * kept else 'no more'
     size = 'thumbnail, side %d of %d' % (side, S) if R else 'side %d' % S
-    said = ['%s %s, %s: %d block%s, %s expected' % (verdict, label, size, kept, s, more),
+    if record[0] == 2: size, gap = size + ', arm %d, mount %d' % named(record), '\n  ' if R else ' '
+    said = ['%s %s, %s:%s%d block%s, %s expected' % (verdict, label, size, gap, kept, s, more),
             '  ' + worth + (', if its blocks are of one shot' if kept > 1 and limit < 255 else ''),
             '  planes finished: %d of %d, levels: %d, bits: %d' % (n - p, n, L, len(bits))]
     if bad: said += ['  block %d ended the run: it is %s' % (kept, bad[0])] + bad[1:]
@@ -112,9 +113,8 @@ def opened(label, record, R=''):
     return said, header.encode() + greys(numbers, k, L, r)
 
 if __name__ == '__main__':
-    given, text = sys.argv[1:], __doc__.strip()
-    if given == ['--version']: sys.exit(print('reader.py 0.4.0, edition 1'))
-    if given == ['--help']: sys.exit(print(text))
+    given, text, version = sys.argv[1:], __doc__.strip(), 'reader.py 0.5.0, editions 1 and 2'
+    if given in (['--help'], ['--version']): sys.exit(print(text if '--help' in given else version))
     wrong = len(given) not in (3, 4) or not all(os.fsencode(R).isdigit() for R in given[3:])
     if wrong or given[0][:1] == '-': sys.exit(print(text, file=sys.stderr) or 2)
     try:

@@ -1,16 +1,20 @@
 //! The label library against the second program where chance is not enough:
 //! every size and level, every cut of small codings, every plane count, every
 //! thumbnail of each size and of each sample, every change of one byte and
-//! every exchange of two in a block, every byte in each place of a label.
-//! Stops at the first difference.
+//! every exchange of two in a block, every byte in each place of a label and of
+//! what the blocks of a record share, in both editions; every edition up to 300
+//! with every arm up to 4, and every choice of a writer's faults. Stops at the
+//! first difference.
 
 mod library;
 
+use label::raw;
 use second::bits;
-use second::block::{self, Block, CHECK_A, CHECK_B, LABEL, LENGTH, PAYLOAD_BITS, PAYLOAD_LENGTH};
+use second::block::{self, Block, Heading, CHECK_A, CHECK_B, COUNT, LABEL, LENGTH};
+use second::edition::{Edition, Origin, MOST_MOUNT};
 use second::places;
 use second::random::Random;
-use second::record;
+use second::record::{self, READER_ROOM};
 use second::samples;
 use second::show;
 use second::sizes::{most_levels, Sizes, LARGEST_K, LARGEST_MAGNITUDE, MOST_PLANES, SMALLEST_K};
@@ -37,7 +41,7 @@ impl Comparison {
     }
 
     /// Holds the answer, which is both sides', to what the rule gives for some of its fields: both might be wrong.
-    fn by_rule(&mut self, request: &Request, fields: &[(&str, u32)]) {
+    fn by_rule(&mut self, request: &Request, fields: &[(&str, u32)]) -> Answer {
         let answer = self.same(request);
         for (field, number) in fields {
             if !answer.contains(&(field, Field::Small(*number))) {
@@ -45,6 +49,7 @@ impl Comparison {
                 exit(1);
             }
         }
+        answer
     }
 
     /// Holds all of the answer to the rule.
@@ -55,6 +60,16 @@ impl Comparison {
         }
     }
 }
+
+/// An origin of edition 2.
+const NAMED: Origin = Origin {
+    edition: 2,
+    arm: 1,
+    mount: 70_123,
+};
+
+/// One origin of each edition.
+const ORIGINS: [Origin; 2] = [Origin::UNNAMED, NAMED];
 
 /// Every side and every number of levels that it allows.
 fn all_sizes() -> impl Iterator<Item = Sizes> {
@@ -123,16 +138,18 @@ fn every_cut(comparison: &mut Comparison, random: &mut Random, sizes: Sizes) {
             limit: count,
             bytes: bits.bytes.len() + 1,
         });
-        let (label, bytes) = (b"00000417".to_vec(), bits.bytes.clone());
-        comparison.same(&Request::RecordWriting {
-            k,
-            levels,
-            planes: bits.planes,
-            label,
-            bytes,
-            count,
-            room: 2048,
-        });
+        for origin in ORIGINS {
+            comparison.same(&Request::RecordWriting {
+                k,
+                levels,
+                planes: bits.planes,
+                origin,
+                label: b"00000417".to_vec(),
+                bytes: bits.bytes.clone(),
+                count,
+                room: 2048,
+            });
+        }
     }
 }
 
@@ -297,6 +314,16 @@ fn sample(path: &PathBuf) -> (u32, Vec<u8>) {
     sides.next().expect("a sample has a side")
 }
 
+/// The library's record of so many bits.
+fn library_record([k, levels, n]: [u32; 3], origin: Origin, label: &[u8], bytes: &[u8], b: usize) -> Vec<u8> {
+    let Origin { edition, arm, mount } = origin;
+    let layout = Edition::new(edition).expect("it is one of both");
+    let mut record = vec![0; record::block_count(layout, b as u64) as usize * LENGTH];
+    let written = raw::write(k, levels, n, edition, arm, mount, label, bytes, b, &mut record);
+    assert_eq!(written.refusal, 0, "there is room for its blocks");
+    record
+}
+
 /// The library's record of a picture.
 fn record_of(sizes: Sizes, picture: &[u8]) -> Vec<u8> {
     let (k, levels) = (sizes.k(), sizes.levels());
@@ -304,14 +331,12 @@ fn record_of(sizes: Sizes, picture: &[u8]) -> Vec<u8> {
     let n = label::forward(k, levels, picture, &mut numbers).expect("the lengths are right");
     let mut bytes = vec![0; label::most_bytes(k, n)];
     let coded = label::code(k, levels, &numbers, usize::MAX, &mut bytes).expect("they are a picture's numbers");
-    let mut record = vec![0; label::blocks(coded.bits) * LENGTH];
-    label::write(k, levels, n, b"0417AAL6", &bytes, coded.bits, &mut record).expect("there is room for its blocks");
-    record
+    library_record([k, levels, n], Origin::UNNAMED, b"0417AAL6", &bytes, coded.bits)
 }
 
 /// The numbers that the library settles by these blocks, and the planes that are not finished.
 fn settled(sizes: Sizes, blocks: &[u8]) -> (Vec<i32>, u32) {
-    let mut payload = vec![0; blocks.len() / LENGTH * PAYLOAD_LENGTH];
+    let mut payload = vec![0; blocks.len() / LENGTH * READER_ROOM];
     let kept = label::read(blocks, b"0417AAL6", &mut payload).expect("the blocks are sound");
     let mut numbers = vec![1; sizes.places()];
     let settled = label::decode(kept.k, kept.levels, kept.n, &mut numbers, &payload, kept.bits);
@@ -360,76 +385,355 @@ fn every_sample(thumbnails: &mut Thumbnails) {
     }
 }
 
-/// A record of so many bits, at side 32 with two levels and eight planes, and the bytes that hold the bits.
-fn a_record(random: &mut Random, label: &[u8], count: usize) -> (Vec<u8>, Vec<u8>) {
-    let bytes = random.bytes(bits::bytes_for(count as u64));
-    let mut record = vec![0; record::block_count(count as u64) as usize * LENGTH];
-    label::write(5, 2, 8, label, &bytes, count, &mut record).expect("there is room for its blocks");
-    (record, bytes)
+/// A request for the record of the first bits, at side 32 with two levels and eight planes.
+fn writing(origin: Origin, label: &[u8], bytes: &[u8], count: usize, room: usize) -> Request {
+    Request::RecordWriting {
+        k: 5,
+        levels: 2,
+        planes: 8,
+        origin,
+        label: label.to_vec(),
+        bytes: bytes.to_vec(),
+        count: count as u64,
+        room,
+    }
+}
+
+/// A request to read these blocks, with as much room as they want.
+fn reading(blocks: &[u8], label: &[u8]) -> Request {
+    Request::RecordReading {
+        blocks: blocks.to_vec(),
+        label: label.to_vec(),
+        room: blocks.len() / LENGTH * READER_ROOM,
+    }
+}
+
+/// The library's record of the first bits, at side 32 with two levels and eight planes.
+fn a_record(origin: Origin, label: &[u8], bytes: &[u8], count: usize) -> Vec<u8> {
+    library_record([5, 2, 8], origin, label, bytes, count)
+}
+
+/// The block at this turn with another byte at this place, its checks made anew; and the record that it stands in.
+fn changed(record: &[u8], turn: usize, place: usize, byte: u8) -> (Vec<u8>, Vec<u8>) {
+    let mut blocks = record.to_vec();
+    let block = &mut blocks[turn * LENGTH..][..LENGTH];
+    block[place] = byte;
+    block::write_checks(block);
+    (block.to_vec(), blocks)
 }
 
 /// A record of two blocks, of which each byte in turn is changed, or that ends after any of them.
 fn every_byte(comparison: &mut Comparison, random: &mut Random) {
-    let label = b"00000417".to_vec();
-    let (record, _) = a_record(random, &label, 4500);
-    for place in 0..1024 {
-        let mut blocks = record.clone();
-        blocks[place] ^= 1 << random.below(8);
-        comparison.same(&Request::RecordReading {
-            blocks,
-            label: label.clone(),
-            room: 984,
-        });
-    }
-    for length in 0..=1024 {
-        comparison.same(&Request::RecordReading {
-            blocks: record[..length].to_vec(),
-            label: label.clone(),
-            room: 984,
-        });
+    let label = b"00000417";
+    for origin in ORIGINS {
+        let record = a_record(origin, label, &random.bytes(563), 4500);
+        for place in 0..1024 {
+            let mut blocks = record.clone();
+            blocks[place] ^= 1 << random.below(8);
+            comparison.same(&reading(&blocks, label));
+        }
+        for length in 0..=1024 {
+            comparison.same(&Request::RecordReading {
+                blocks: record[..length].to_vec(),
+                label: label.to_vec(),
+                room: 984,
+            });
+        }
     }
 }
 
+/// Whether a label may have this byte.
+fn is_character(byte: u8) -> bool {
+    byte.is_ascii_digit() || byte.is_ascii_uppercase()
+}
+
 /// Every byte in each place of a label, which is given to the writer or the reader, or stands in a block.
-fn every_character(comparison: &mut Comparison, random: &mut Random) {
+fn every_character(comparison: &mut Comparison, random: &mut Random, origin: Origin) {
     let right = b"0417AAL6".to_vec();
-    let (record, bytes) = a_record(random, &right, 4500);
+    let bytes = random.bytes(563);
+    let record = a_record(origin, &right, &bytes, 4500);
     for place in 0..8 {
         for byte in 0..=255 {
             let mut label = right.clone();
             label[place] = byte;
-            let is_label = (b'0'..=b'9').contains(&byte) || (b'A'..=b'Z').contains(&byte);
-            let alone = |number: u32| if is_label { 0 } else { number };
+            let alone = |number: u32| if is_character(byte) { 0 } else { number };
             // A reader also holds the label given to the label in the block.
-            let both = |number: u32| match (is_label, label == right) {
+            let both = |number: u32| match (is_character(byte), label == right) {
                 (false, _) => number,
                 (true, false) => 10,
                 (true, true) => 0,
             };
-            let writing = Request::RecordWriting {
-                k: 5,
-                levels: 2,
-                planes: 8,
-                label: label.clone(),
-                bytes: bytes.clone(),
-                count: 4500,
-                room: 1024,
-            };
-            comparison.by_rule(&writing, &[("refusal", alone(7))]);
-            let reading = |blocks: &[u8], label: &[u8]| Request::RecordReading {
-                blocks: blocks.to_vec(),
-                label: label.to_vec(),
-                room: 984,
-            };
+            comparison.by_rule(&writing(origin, &label, &bytes, 4500, 1024), &[("refusal", alone(7))]);
             comparison.by_rule(&reading(&record, &label), &[("refusal", both(7)), ("ended", 0)]);
-            for (at, refusal, ended) in [(0, both(9), 0), (512, 0, both(9))] {
-                let mut blocks = record.clone();
-                let block = &mut blocks[at..at + 512];
-                block[4 + place] = byte;
-                block::write_checks(block);
-                let block = block.to_vec();
+            for (turn, refusal, ended) in [(0, both(9), 0), (1, 0, both(9))] {
+                let (block, blocks) = changed(&record, turn, 4 + place, byte);
                 comparison.by_rule(&Request::BlockCheck { block }, &[("refusal", alone(9))]);
                 comparison.by_rule(&reading(&blocks, &right), &[("refusal", refusal), ("ended", ended)]);
+            }
+        }
+    }
+}
+
+/// The calls about editions that were made.
+#[derive(Default)]
+struct Editions {
+    written: u64,
+    refused: u64,
+    changed: u64,
+}
+
+/// What a reader answers to a whole record of these bits, at side 32 with two levels: they stand in its room again.
+fn read_back(planes: u32, origin: Origin, blocks: usize, bytes: &[u8], count: u64) -> Answer {
+    let Origin { edition, arm, mount } = origin;
+    let mut room = lent_bytes(blocks * READER_ROOM);
+    let used = bits::bytes_for(count);
+    room[..used].copy_from_slice(&bytes[..used]);
+    if count % 8 != 0 {
+        room[used - 1] &= 0xFF << (8 - count % 8);
+    }
+    vec![
+        ("refusal", Field::Small(0)),
+        ("k", Field::Small(5)),
+        ("L", Field::Small(2)),
+        ("n", Field::Small(planes)),
+        ("blocks", Field::Small(blocks as u32)),
+        ("bits", Field::Large(count)),
+        ("ended", Field::Small(0)),
+        ("edition", Field::Small(edition)),
+        ("arm", Field::Small(arm)),
+        ("mount", Field::Small(mount)),
+        ("room", Field::Bytes(room)),
+    ]
+}
+
+impl Editions {
+    /// A record that is written with so many blocks, and read back with all that it says.
+    fn is_written(&mut self, comparison: &mut Comparison, request: &Request, blocks: usize) {
+        let Request::RecordWriting {
+            planes,
+            origin,
+            label,
+            bytes,
+            count,
+            ..
+        } = request
+        else {
+            unreachable!("it is a request for record writing")
+        };
+        let answer = comparison.by_rule(request, &[("refusal", 0), ("blocks", blocks as u32)]);
+        let Some((_, Field::Bytes(room))) = answer.last() else {
+            unreachable!("the room is the last field")
+        };
+        let origin = if origin.edition == 1 { Origin::UNNAMED } else { *origin };
+        let read_back = read_back(*planes, origin, blocks, bytes, *count);
+        comparison.whole_by_rule(&reading(&room[..blocks * LENGTH], label), &read_back);
+        self.written += 1;
+    }
+
+    /// A call that is refused and changes nothing.
+    fn is_refused(&mut self, comparison: &mut Comparison, request: &Request, refusal: u32) {
+        let Request::RecordWriting { room, .. } = request else {
+            unreachable!("it is a request for record writing")
+        };
+        let answer = vec![
+            ("refusal", Field::Small(refusal)),
+            ("blocks", Field::Small(0)),
+            ("room", Field::Bytes(lent_bytes(*room))),
+        ];
+        comparison.whole_by_rule(request, &answer);
+        self.refused += 1;
+    }
+}
+
+/// Every edition up to 300 with every arm up to 4, and mount numbers about every power of two with both arms.
+fn every_edition(comparison: &mut Comparison, random: &mut Random, editions: &mut Editions) {
+    let bytes = random.bytes(563);
+    let mut try_origin = |edition, arm, mount| {
+        let origin = Origin { edition, arm, mount };
+        let request = writing(origin, b"0417AAL6", &bytes, 4500, 1024);
+        let fits = [1, 2].contains(&arm) && mount <= MOST_MOUNT;
+        if edition == 1 || (edition == 2 && fits) {
+            editions.is_written(comparison, &request, 2);
+        } else {
+            editions.is_refused(comparison, &request, 9);
+        }
+    };
+    for edition in (0..=300).chain([1 << 16 | 1, 1 << 16 | 2, 1 << 31 | 1, 1 << 31 | 2, u32::MAX]) {
+        for arm in (0..=4).chain([255, 256 + 1, 256 + 2, 1 << 24 | 1, 1 << 31 | 2, u32::MAX]) {
+            try_origin(edition, arm, 70_123);
+        }
+    }
+    let powers = (0..32).map(|power| 1_u32 << power);
+    let mounts = powers.flat_map(|power| [power - 1, power, power + 1]).chain([u32::MAX]);
+    for mount in mounts {
+        for (edition, arm) in [(1, 1), (1, 2), (2, 1), (2, 2)] {
+            try_origin(edition, arm, mount);
+        }
+    }
+}
+
+/// Every choice of a writer's seven faults, that of 6 in each of its kinds, the last in the arm or the mount number:
+/// they are told in the order 1, 2, 5, 9, 6, 7, 9. In edition 1 the last is none.
+fn every_fault(comparison: &mut Comparison, editions: &mut Editions) {
+    let kinds = [0, 1, 2]
+        .into_iter()
+        .flat_map(|six| [(six, [0, 7]), (six, [1, MOST_MOUNT + 1])]);
+    let choices = kinds.flat_map(|kind| (0_u32..128).map(move |faults| (faults, kind)));
+    for (faults, (six, names)) in choices {
+        for edition in [1, 2] {
+            let wrong = |fault: u32| faults >> fault & 1 == 1;
+            let [arm, mount] = if wrong(6) { names } else { [2, 7] };
+            // More bits than lent, more than the walk can have, too little room.
+            let (count, bytes, room) = match six {
+                _ if !wrong(4) => (1400, 200, 512),
+                0 => (1401, 175, 512),
+                1 => (3073, 512, 512),
+                _ => (1400, 200, 511),
+            };
+            let request = Request::RecordWriting {
+                k: if wrong(0) { LARGEST_K + 1 } else { 5 },
+                levels: if wrong(1) { 0 } else { 2 },
+                planes: if wrong(2) { MOST_PLANES + 1 } else { 1 },
+                origin: Origin {
+                    edition: if wrong(3) { 256 + edition } else { edition },
+                    arm,
+                    mount,
+                },
+                label: if wrong(5) {
+                    b"0417aal6".to_vec()
+                } else {
+                    b"0417AAL6".to_vec()
+                },
+                bytes: vec![0xA5; bytes],
+                count,
+                room,
+            };
+            let ignored = if edition == 1 && !wrong(3) { 1 << 6 } else { 0 };
+            match (faults & !ignored).trailing_zeros() {
+                32 => editions.is_written(comparison, &request, 1),
+                first => editions.is_refused(comparison, &request, [1, 2, 5, 9, 6, 7, 9][first as usize]),
+            }
+        }
+    }
+}
+
+/// Every count of bits about those that a full block holds, with room for just one block or two, and one byte under.
+fn every_count(comparison: &mut Comparison, random: &mut Random, editions: &mut Editions) {
+    let bytes = random.bytes(500);
+    for count in 3_890..=3_950 {
+        for (origin, full) in ORIGINS.into_iter().zip([3_936, 3_904]) {
+            for room in [511, 512, 1023, 1024] {
+                let request = writing(origin, b"0417AAL6", &bytes, count, room);
+                let blocks = if count > full { 2 } else { 1 };
+                if room < blocks * LENGTH {
+                    editions.is_refused(comparison, &request, 6);
+                } else {
+                    editions.is_written(comparison, &request, blocks);
+                }
+            }
+        }
+    }
+}
+
+/// The reader's room has one figure: 492 for each whole block, of either edition.
+fn every_room(comparison: &mut Comparison, random: &mut Random) {
+    for (origin, blocks) in ORIGINS.into_iter().flat_map(|origin| [(origin, 1), (origin, 2)]) {
+        let record = a_record(origin, b"0417AAL6", &random.bytes(563), 4500);
+        for room in 480 * blocks..500 * blocks {
+            let request = Request::RecordReading {
+                blocks: record[..blocks * LENGTH].to_vec(),
+                label: b"0417AAL6".to_vec(),
+                room,
+            };
+            let refusal = if room < 492 * blocks { 6 } else { 0 };
+            comparison.by_rule(&request, &[("refusal", refusal)]);
+        }
+    }
+}
+
+/// Each bit of a payload set alone, as the last that counts and as the first that is unused; and, of a payload without
+/// bits, every count about those that a full block holds.
+fn every_unused_bit(comparison: &mut Comparison, random: &mut Random, origin: Origin) {
+    let edition = Edition::new(origin.edition).expect("it is one of both");
+    let (start, full) = (edition.payload().start, edition.payload_bits());
+    let empty = a_record(origin, b"0417AAL6", &[], 0);
+    let mut by_rule = |place: Option<u16>, count: u16, refusal| {
+        let mut block = empty.clone();
+        if let Some(place) = place {
+            block[start + usize::from(place / 8)] |= 0x80 >> (place % 8);
+        }
+        block[COUNT].copy_from_slice(&count.to_be_bytes());
+        block::write_checks(&mut block);
+        comparison.by_rule(&reading(&block, b"0417AAL6"), &[("refusal", refusal)]);
+        comparison.by_rule(&Request::BlockCheck { block }, &[("refusal", refusal)]);
+    };
+    for place in 0..full {
+        by_rule(Some(place), place + 1, 0);
+        by_rule(Some(place), place, 9);
+        by_rule(Some(place), random.below(u64::from(place) + 1) as u16, 9);
+    }
+    let far = (0..16).map(|power| 1 << power).chain([0, u16::MAX]);
+    for count in (3_890..=3_950).chain(far) {
+        by_rule(None, count, if count <= full { 0 } else { 9 });
+    }
+}
+
+/// What a block at side 32 with two levels is refused for in its turn, 0, 9 or 10, once one of the bytes that it shares
+/// with block 0 has another value. As a block of the other edition it may be sound, 10, or not, 9.
+fn shared_byte(origin: Origin, place: usize, byte: u8, in_other: u32) -> u32 {
+    let other = 3 - origin.edition;
+    let fits = match place {
+        0 if u32::from(byte) == other => return in_other,
+        0 => false,
+        1 => (3..=8).contains(&byte),
+        2 => (1..=4).contains(&byte),
+        3 => byte <= 18,
+        4..=11 => is_character(byte),
+        // Here they are payload, and any other is as good.
+        16..=19 if origin.edition == 1 => return 0,
+        16 => byte == 1 || byte == 2,
+        _ => true,
+    };
+    if fits {
+        10
+    } else {
+        9
+    }
+}
+
+/// Every byte in each place of what the blocks of a record share, in a block by itself and as block 1 of a record. The
+/// first such block is full, and as one of the other edition not sound; the second is sound in both.
+fn every_shared_byte(comparison: &mut Comparison, random: &mut Random, origin: Origin, editions: &mut Editions) {
+    let edition = Edition::new(origin.edition).expect("it is one of both");
+    let full = edition.payload_bits() as usize;
+    let mut bytes = random.bytes(2 * full / 8);
+    // In edition 1 they would be unused bits.
+    bytes[2 * full / 8 - 4..].fill(0xA5);
+    let full_block = a_record(origin, b"0417AAL6", &bytes, 2 * full);
+    // Arm and mount, or bits that look like them; eight bytes; zeros.
+    let mut bytes = random.bytes(full / 8);
+    if edition == Edition::One {
+        bytes.extend(NAMED.names());
+    }
+    bytes.extend(random.bytes(8));
+    bytes.resize(full / 8 + 13, 0);
+    let in_both = a_record(origin, b"0417AAL6", &bytes, full + 100);
+    for (record, in_other) in [(full_block, 9), (in_both, 10)] {
+        for place in (0..12).chain(16..20) {
+            for byte in 0..=255 {
+                let (block, blocks) = changed(&record, 1, place, byte);
+                let ended = match record[LENGTH + place] == byte {
+                    true => 0,
+                    false => shared_byte(origin, place, byte, in_other),
+                };
+                let alone = if ended == 10 { 0 } else { ended };
+                comparison.by_rule(&Request::BlockCheck { block }, &[("refusal", alone)]);
+                let kept = if ended == 0 { 2 } else { 1 };
+                let fields = [("refusal", 0), ("blocks", kept), ("ended", ended)];
+                comparison.by_rule(&reading(&blocks, b"0417AAL6"), &fields);
+                // And in block 0, which decides what the other is held to.
+                comparison.same(&reading(&changed(&record, 0, place, byte).1, b"0417AAL6"));
+                editions.changed += 1;
             }
         }
     }
@@ -445,19 +749,29 @@ fn flat_block() -> Block {
 }
 
 /// Blocks of several kinds whose A and B are right, each with what the single-block check answers to it.
-fn sealed_blocks(random: &mut Random) -> [(Block, u32); 5] {
-    let heading = |k, levels, planes, label| {
+fn sealed_blocks(random: &mut Random) -> [(Block, u32); 6] {
+    let heading = |k, levels, planes, origin, label: &[u8]| {
         let sizes = Sizes::new(k, levels).expect("k and L are in their ranges");
-        block::heading(sizes, planes, label)
+        Heading::new(sizes, planes, origin, label).expect("the origin is in its ranges")
     };
-    let empty = block::build(&heading(8, 5, 18, b"ZZ0417M8"), 0, 0, &[]);
-    let payload = random.bytes(PAYLOAD_LENGTH);
-    let dense = block::build(&heading(5, 2, 8, b"0417AAL6"), 1, PAYLOAD_BITS, &payload);
-    let full = block::build(&heading(6, 4, 9, b"99999999"), 2, PAYLOAD_BITS, &[255; PAYLOAD_LENGTH]);
+    let [one, two] = Edition::BOTH.map(Edition::payload_bits);
+    let payload = random.bytes(READER_ROOM);
+    let first = Origin::UNNAMED;
+    let empty = block::build(&heading(8, 5, 18, first, b"ZZ0417M8"), 0, 0, &[]);
+    let dense = block::build(&heading(5, 2, 8, first, b"0417AAL6"), 1, one, &payload);
+    let full = block::build(&heading(6, 4, 9, first, b"99999999"), 2, one, &[255; READER_ROOM]);
+    let named = block::build(&heading(7, 3, 11, NAMED, b"0417AAL6"), 3, two, &payload);
     let mut no_fields = [0; LENGTH];
     no_fields.fill_with(|| random.byte());
     block::write_checks(&mut no_fields);
-    [(flat_block(), 0), (empty, 0), (dense, 0), (full, 0), (no_fields, 9)]
+    [
+        (flat_block(), 0),
+        (empty, 0),
+        (dense, 0),
+        (full, 0),
+        (named, 0),
+        (no_fields, 9),
+    ]
 }
 
 /// Two places of a block, each of them often in the checks.
@@ -504,8 +818,8 @@ struct Caught {
     pairs: u64,
 }
 
-/// Every change of one byte of a block, every exchange of two, and changes of two by chance: A and B find them all, and
-/// are judged before the fields.
+/// Every change of one byte of a block, every exchange of two unequal ones, and changes of two by chance: A and B find
+/// them all, and are judged before the fields.
 fn what_the_check_catches(comparison: &mut Comparison, random: &mut Random) -> Caught {
     let mut caught = Caught::default();
     let mut by_rule = |block: Block, refusal| {
@@ -521,13 +835,12 @@ fn what_the_check_catches(comparison: &mut Comparison, random: &mut Random) -> C
                 by_rule(changed, 8);
                 caught.changes += 1;
             }
-            for other in place + 1..LENGTH {
+            // Two equal bytes exchanged leave the block as it was, which was tried above.
+            for other in (place + 1..LENGTH).filter(|other| block[*other] != block[place]) {
                 let mut exchanged = block;
                 exchanged.swap(place, other);
-                // Two equal bytes leave the block as it was.
-                let is_other = block[place] != block[other];
-                by_rule(exchanged, if is_other { 8 } else { own });
-                caught.exchanges += u64::from(is_other);
+                by_rule(exchanged, 8);
+                caught.exchanges += 1;
             }
         }
         for _ in 0..40_000 {
@@ -567,15 +880,14 @@ fn what_the_check_catches(comparison: &mut Comparison, random: &mut Random) -> C
 
 /// A record of three blocks, one of them damaged in such ways: a reader keeps those before it and ends the run as 8, or
 /// refuses by 8 where none is before it. Gives how many were damaged.
-fn where_a_run_ends(comparison: &mut Comparison, random: &mut Random) -> u64 {
-    let label = b"00000417".to_vec();
-    let (record, _) = a_record(random, &label, 9000);
-    let mut by_rule = |blocks: Vec<u8>, refusal, kept, ended| {
-        let (label, room) = (label.clone(), 3 * PAYLOAD_LENGTH);
-        let reading = Request::RecordReading { blocks, label, room };
-        comparison.by_rule(&reading, &[("refusal", refusal), ("blocks", kept), ("ended", ended)]);
+fn where_a_run_ends(comparison: &mut Comparison, random: &mut Random, origin: Origin) -> u64 {
+    let label = b"00000417";
+    let record = a_record(origin, label, &random.bytes(1125), 9000);
+    let mut by_rule = |blocks: &[u8], refusal, kept, ended| {
+        let fields = [("refusal", refusal), ("blocks", kept), ("ended", ended)];
+        comparison.by_rule(&reading(blocks, label), &fields);
     };
-    by_rule(record.clone(), 0, 3, 0);
+    by_rule(&record, 0, 3, 0);
     let mut damaged = 0;
     for turn in 0..3 {
         for round in 0..LENGTH + 8000 {
@@ -589,8 +901,8 @@ fn where_a_run_ends(comparison: &mut Comparison, random: &mut Random) -> u64 {
                 change_two(random, block);
             }
             match turn {
-                0 => by_rule(blocks, 8, 0, 0),
-                kept => by_rule(blocks, 0, kept as u32, 8),
+                0 => by_rule(&blocks, 8, 0, 0),
+                kept => by_rule(&blocks, 0, kept as u32, 8),
             }
             damaged += 1;
         }
@@ -616,15 +928,33 @@ fn main() {
     }
     every_sample(&mut thumbnails);
     every_byte(&mut comparison, &mut random);
-    every_character(&mut comparison, &mut random);
+    let mut editions = Editions::default();
+    every_edition(&mut comparison, &mut random, &mut editions);
+    every_fault(&mut comparison, &mut editions);
+    every_count(&mut comparison, &mut random, &mut editions);
+    every_room(&mut comparison, &mut random);
+    let mut damaged = 0;
+    for origin in ORIGINS {
+        every_character(&mut comparison, &mut random, origin);
+        every_unused_bit(&mut comparison, &mut random, origin);
+        every_shared_byte(&mut comparison, &mut random, origin, &mut editions);
+        damaged += where_a_run_ends(&mut comparison, &mut random, origin);
+    }
     let caught = what_the_check_catches(&mut comparison, &mut random);
-    let damaged = where_a_run_ends(&mut comparison, &mut random);
     println!("{} cases one by one, no difference", comparison.cases);
     println!(
         "{} changes of one byte of a block, {} exchanges of two unequal bytes, {} changes of two: each refused by 8",
         caught.changes, caught.exchanges, caught.pairs
     );
     println!("{damaged} records with one block so damaged: each kept up to that block and no further, by 8");
+    println!(
+        "{} records written in one of two editions and read back, {} refused: by the first of 1, 2, 5, 9, 6, 7 and 9",
+        editions.written, editions.refused
+    );
+    println!(
+        "{} blocks with one shared byte changed: each judged as its edition says, alone and in its record",
+        editions.changed
+    );
     println!(
         "{} thumbnails at every size, level and r, and {} refused: by the first of 1, 2, 13, 3 and 4",
         thumbnails.accepted, thumbnails.refused

@@ -2,6 +2,7 @@
 //! the package makes of it, a value or a refusal by name, is held to it here.
 
 use label::{raw, Refusal};
+use second::edition::Origin;
 use second::transcript::{self, Answer, Field, Request};
 
 fn small(value: u32) -> Field {
@@ -91,13 +92,16 @@ pub fn answer(request: &Request) -> Answer {
             k,
             levels,
             planes,
+            origin,
             label,
             bytes,
             count,
             room,
         } => {
             let mut room = transcript::lent_bytes(*room);
-            let given = raw::write(*k, *levels, *planes, label, bytes, *count as usize, &mut room);
+            let Origin { edition, arm, mount } = *origin;
+            let b = *count as usize;
+            let given = raw::write(*k, *levels, *planes, edition, arm, mount, label, bytes, b, &mut room);
             named(given.refusal, given.result());
             vec![
                 ("refusal", small(given.refusal)),
@@ -117,6 +121,9 @@ pub fn answer(request: &Request) -> Answer {
                 ("blocks", small(given.blocks as u32)),
                 ("bits", large(given.bits)),
                 ("ended", small(given.ended)),
+                ("edition", small(given.edition)),
+                ("arm", small(given.arm)),
+                ("mount", small(given.mount)),
                 ("room", Field::Bytes(room)),
             ]
         }

@@ -1,27 +1,23 @@
 //! The 512-byte block: its fields, its payload and its two checks.
 
 use crate::bits;
+use crate::edition::{Edition, Origin};
 use crate::refusal::Refusal;
 use crate::sizes::{self, Sizes};
 use std::ops::Range;
 
 pub const LENGTH: usize = 512;
-pub const PAYLOAD: Range<usize> = 16..508;
-pub const PAYLOAD_LENGTH: usize = 492;
-pub const PAYLOAD_BITS: u16 = 3_936;
 pub const LABEL: Range<usize> = 4..12;
 /// Bytes 0 to 11, which all blocks of a record share.
-pub const HEADING: Range<usize> = 0..12;
+pub const SHARED: Range<usize> = 0..12;
 pub const NUMBER: Range<usize> = 12..14;
 pub const COUNT: Range<usize> = 14..16;
 pub const CHECK_A: Range<usize> = 508..510;
 pub const CHECK_B: Range<usize> = 510..512;
 
-const EDITION: u8 = 1;
 const MODULUS: u64 = 65_521;
 
 pub type Block = [u8; LENGTH];
-pub type Heading = [u8; 12];
 
 /// Whether these bytes are a label: eight characters, each 0 to 9 or A to Z.
 pub fn is_label(label: &[u8]) -> bool {
@@ -29,28 +25,65 @@ pub fn is_label(label: &[u8]) -> bool {
     label.len() == LABEL.len() && label.iter().all(is_character)
 }
 
-/// Bytes 0 to 11 of a block with these fields, which are all in their ranges.
-pub fn heading(sizes: Sizes, planes: u32, label: &[u8]) -> Heading {
-    let mut heading = [0; 12];
-    heading[0] = EDITION;
-    heading[1] = sizes.k() as u8;
-    heading[2] = sizes.levels() as u8;
-    heading[3] = planes as u8;
-    heading[LABEL].copy_from_slice(label);
-    heading
+/// What all blocks of a record share: a block under construction that has their
+/// bytes 0 to 11 and, in edition 2, the arm and the mount number.
+#[derive(Clone, Copy)]
+pub struct Heading {
+    edition: Edition,
+    block: Block,
+}
+
+impl Heading {
+    /// Judges 9 of the origin. The planes and the label are in their ranges.
+    pub fn new(
+        sizes: Sizes,
+        planes: u32,
+        origin: Origin,
+        label: &[u8],
+    ) -> Result<Heading, Refusal> {
+        let edition = Edition::new(origin.edition)?;
+        origin.check_names()?;
+        let mut block = [0; LENGTH];
+        block[0] = edition.number() as u8;
+        block[1] = sizes.k() as u8;
+        block[2] = sizes.levels() as u8;
+        block[3] = planes as u8;
+        block[LABEL].copy_from_slice(label);
+        let names = &mut block[edition.names()];
+        names.copy_from_slice(&origin.names()[..names.len()]);
+        Ok(Heading { edition, block })
+    }
+
+    /// That of a block, in range or not. Where its edition is neither, the
+    /// block is laid out as in edition 1.
+    pub fn of(block: &[u8]) -> Heading {
+        let edition = Edition::new(block[0].into()).unwrap_or(Edition::One);
+        let mut shared = [0; LENGTH];
+        for places in [SHARED, edition.names()] {
+            shared[places.clone()].copy_from_slice(&block[places]);
+        }
+        Heading {
+            edition,
+            block: shared,
+        }
+    }
+
+    pub fn edition(&self) -> Edition {
+        self.edition
+    }
 }
 
 /// A whole block holding the first `count` bits of `payload`.
 pub fn build(heading: &Heading, number: u16, count: u16, payload: &[u8]) -> Block {
-    let mut block = [0; LENGTH];
-    block[HEADING].copy_from_slice(heading);
+    let mut block = heading.block;
     block[NUMBER].copy_from_slice(&number.to_be_bytes());
     block[COUNT].copy_from_slice(&count.to_be_bytes());
     let used = bits::bytes_for(count.into());
-    block[PAYLOAD][..used].copy_from_slice(&payload[..used]);
+    let place = &mut block[heading.edition.payload()][..used];
+    place.copy_from_slice(&payload[..used]);
     if count % 8 != 0 {
         // The bits after the last count as 0, whatever the bytes held.
-        block[PAYLOAD][used - 1] &= 0xFF << (8 - count % 8);
+        place[used - 1] &= 0xFF << (8 - count % 8);
     }
     write_checks(&mut block);
     block
@@ -82,20 +115,23 @@ pub fn sizes_field(block: &[u8]) -> [u32; 3] {
     [block[1].into(), block[2].into(), block[3].into()]
 }
 
-fn fields_are_right(block: &[u8]) -> bool {
+fn fields_are_right(block: &[u8], edition: Edition) -> bool {
     let [k, levels, planes] = sizes_field(block);
     let count = field(block, COUNT);
-    block[0] == EDITION
-        && Sizes::new(k, levels).is_ok()
+    let full = edition.payload_bits();
+    let payload = &block[edition.payload()];
+    Sizes::new(k, levels).is_ok()
         && sizes::check_planes(planes).is_ok()
         && is_label(&block[LABEL])
-        && count <= PAYLOAD_BITS
-        && (count..PAYLOAD_BITS).all(|place| !bits::bit_at(&block[PAYLOAD], place.into()))
+        && Origin::of(block).check_names().is_ok()
+        && count <= full
+        && (count..full).all(|place| !bits::bit_at(payload, place.into()))
 }
 
 /// Judges 8 and 9 of a block that is 512 bytes long.
 pub fn check(block: &[u8]) -> Result<(), Refusal> {
     let stored = [field(block, CHECK_A), field(block, CHECK_B)];
     Refusal::Check.when(stored != checks(block))?;
-    Refusal::Field.when(!fields_are_right(block))
+    let edition = Edition::new(block[0].into())?;
+    Refusal::Field.when(!fields_are_right(block, edition))
 }

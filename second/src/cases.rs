@@ -2,10 +2,11 @@
 //! by the seed, its number and the options alone.
 
 use crate::bits;
-use crate::block::{self, LENGTH, PAYLOAD_BITS, PAYLOAD_LENGTH};
+use crate::block::{self, LENGTH};
 use crate::damage;
+use crate::edition::{Edition, Origin};
 use crate::random::Random;
-use crate::record;
+use crate::record::{self, READER_ROOM};
 use crate::samples;
 use crate::sizes::{self, Sizes, LARGEST_MAGNITUDE, MOST_PLANES};
 use crate::transcript::{Request, MOST_BYTES, MOST_NUMBERS};
@@ -262,68 +263,161 @@ fn inverse(random: &mut Random, largest: u32) -> Request {
     }
 }
 
-/// A count of bits that is at the bound of the walk or beyond it by `by`, with
-/// bytes that hold it.
-fn to_the_bound(random: &mut Random, most: u64, by: u64, bytes: &mut Vec<u8>) -> u64 {
-    let count = most + by;
-    let missing = bits::bytes_for(count).saturating_sub(bytes.len());
-    bytes.extend(samples::payload(random, missing));
-    count
+/// The room for the blocks of so many bits.
+fn room_for(edition: Edition, count: u64) -> usize {
+    record::block_count(edition, count) as usize * LENGTH
+}
+
+/// A count up to `most` that takes one block more in edition 2 than in edition
+/// 1, the ends of its range often; none if `most` is too low for any.
+fn between_editions(random: &mut Random, most: u64) -> Option<u64> {
+    let [one, two] = Edition::BOTH.map(|edition| u64::from(edition.payload_bits()));
+    let blocks = 1 + random.below(3);
+    let (from, to) = (two * blocks + 1, most.min(one * blocks));
+    (from <= to).then(|| {
+        let anywhere = from + random.below(to - from + 1);
+        random.pick(&[from, to, anywhere])
+    })
+}
+
+/// A request for record writing under construction.
+struct Writing {
+    sent: Sent,
+    edition: Edition,
+    /// The bound of the walk.
+    most: u64,
+    planes: u32,
+    origin: Origin,
+    label: Vec<u8>,
+    bytes: Vec<u8>,
+    count: u64,
+    room: usize,
+}
+
+impl Writing {
+    /// One that is good but for its room, which now and then is short.
+    fn new(random: &mut Random, largest: u32) -> Writing {
+        let sent = Sent::new(random, largest);
+        let samples::Bits {
+            planes,
+            bytes,
+            count: total,
+        } = samples::bits(random, sent.sizes);
+        let edition = samples::edition(random);
+        let mut origin = samples::origin(random, edition);
+        // Edition 1 ignores them.
+        if edition == Edition::One && random.one_in(2) {
+            samples::spoil_names(random, &mut origin);
+        }
+        let mut writing = Writing {
+            most: sent.sizes.most_bits(planes),
+            sent,
+            edition,
+            planes,
+            origin,
+            label: samples::label(random),
+            bytes,
+            count: 0,
+            room: 0,
+        };
+        writing.measure(random, total);
+        writing
+    }
+
+    /// Sets the count, and lends bytes that hold it.
+    fn hold(&mut self, random: &mut Random, count: u64) {
+        let missing = bits::bytes_for(count).saturating_sub(self.bytes.len());
+        self.bytes.extend(samples::payload(random, missing));
+        self.count = count;
+    }
+
+    /// Sets the count, often next to a limit, and the room.
+    fn measure(&mut self, random: &mut Random, total: u64) {
+        if random.one_in(2) {
+            if let Some(count) = between_editions(random, self.most) {
+                self.hold(random, count);
+                // What one of the editions wants, or one byte under that.
+                let edition = random.pick(&Edition::BOTH);
+                self.room = room_for(edition, count) - random.index(2);
+                return;
+            }
+        }
+        let full = u64::from(self.edition.payload_bits());
+        let count = match random.below(6) {
+            0 => self.most,
+            1 if total > full => {
+                let near = full * (1 + random.below(total / full)) - 1 + random.below(3);
+                near.min(total)
+            }
+            _ => cut(random, total),
+        };
+        self.hold(random, count.min(self.most));
+        let surplus = random.index(2 * LENGTH);
+        self.room = room_for(self.edition, self.count) + random.pick(&[0, 0, 1, surplus]);
+    }
+
+    /// Puts in one of the faults 0 to 6, which are judged in this order.
+    fn spoil(&mut self, random: &mut Random, fault: u64) {
+        match fault {
+            0 => self.sent.spoil_k(random),
+            1 => self.sent.spoil_levels(random),
+            2 => self.planes = wrong_planes(random),
+            3 => self.origin.edition = samples::neither_1_nor_2(random),
+            4 => self.spoil_measure(random),
+            5 => self.label = samples::wrong_label(random),
+            _ => samples::spoil_names(random, &mut self.origin),
+        }
+    }
+
+    /// More bits than lent, or than the walk can have, or too little room.
+    fn spoil_measure(&mut self, random: &mut Random) {
+        match random.below(3) {
+            0 => self.count = beyond(random, &self.bytes),
+            1 => {
+                let by = random.pick(&[1, 2, 8, 64, self.edition.payload_bits().into()]);
+                self.hold(random, self.most + by);
+                self.room = room_for(self.edition, self.count);
+            }
+            _ => {
+                let wanted = room_for(self.edition, self.count);
+                let short = 1 + random.index(wanted);
+                self.room = wanted - random.pick(&[1, short, LENGTH, wanted]);
+            }
+        }
+    }
+}
+
+/// Which of the seven faults a request for record writing has: most often none
+/// or few of them, sometimes any choice, and now and then the edition or the
+/// names alone, of which many values are wrong.
+fn faults(random: &mut Random) -> impl Iterator<Item = u64> {
+    let few = (0..spoils(random)).fold(0, |chosen, _| chosen | 1 << random.below(7));
+    let any = random.below(1 << 7);
+    let alone = random.pick(&[1 << 3, 1 << 6, 1 << 6, 1 << 6]);
+    let chosen = random.pick(&[few, few, few, any, alone, alone]);
+    (0..7).filter(move |fault| chosen >> fault & 1 == 1)
 }
 
 fn record_writing(random: &mut Random, largest: u32) -> Request {
-    let mut sent = Sent::new(random, largest);
-    let samples::Bits {
-        mut planes,
-        mut bytes,
-        count: total,
-    } = samples::bits(random, sent.sizes);
-    let most = sent.sizes.most_bits(planes);
-    let full = u64::from(PAYLOAD_BITS);
-    let mut count = match random.below(6) {
-        0 => to_the_bound(random, most, 0, &mut bytes),
-        1 if total > full => {
-            let near = full * (1 + random.below(total / full)) - 1 + random.below(3);
-            near.min(total)
-        }
-        _ => cut(random, total),
-    }
-    .min(most);
-    let mut label = samples::label(random);
-    let surplus = random.index(2 * LENGTH);
-    let wanted = record::block_count(count) as usize * LENGTH;
-    let mut room = wanted + random.pick(&[0, 0, 1, surplus]);
-    for _ in 0..spoils(random) {
-        match random.below(6) {
-            0 => sent.spoil(random),
-            1 => planes = wrong_planes(random),
-            2 => count = beyond(random, &bytes),
-            3 => {
-                let by = random.pick(&[1, 2, 8, 64, full]);
-                count = to_the_bound(random, most, by, &mut bytes);
-                room = record::block_count(count) as usize * LENGTH;
-            }
-            4 => {
-                let short = 1 + random.index(wanted);
-                room = wanted - random.pick(&[1, short, LENGTH, wanted]);
-            }
-            _ => label = samples::wrong_label(random),
-        }
+    let mut writing = Writing::new(random, largest);
+    for fault in faults(random) {
+        writing.spoil(random, fault);
     }
     Request::RecordWriting {
-        k: sent.k,
-        levels: sent.levels,
-        planes,
-        label,
-        bytes,
-        count,
-        room,
+        k: writing.sent.k,
+        levels: writing.sent.levels,
+        planes: writing.planes,
+        origin: writing.origin,
+        label: writing.label,
+        bytes: writing.bytes,
+        count: writing.count,
+        room: writing.room,
     }
 }
 
 fn record_reading(random: &mut Random, largest: u32) -> Request {
     let (mut record, mut label) = damage::whole_record(random, largest);
-    for _ in 0..random.pick(&[0, 0, 0, 1, 1, 1, 1, 2, 3]) {
+    for _ in 0..random.pick(&[0, 0, 1, 1, 1, 1, 1, 2, 3]) {
         damage::damage_record(random, largest, &mut record);
     }
     let mut blocks = record.concat();
@@ -339,18 +433,24 @@ fn record_reading(random: &mut Random, largest: u32) -> Request {
         }
         _ => {}
     }
-    let wanted = blocks.len() / LENGTH * PAYLOAD_LENGTH;
-    let surplus = random.index(2 * PAYLOAD_LENGTH);
+    let wanted = blocks.len() / LENGTH * READER_ROOM;
+    let surplus = random.index(2 * READER_ROOM);
     let mut room = wanted + random.pick(&[0, 0, 1, surplus]);
-    // Half the time the blocks alone decide.
-    let spoils = if random.one_in(2) { spoils(random) } else { 0 };
+    // Most often the blocks alone decide.
+    let spoils = if random.one_in(3) { spoils(random) } else { 0 };
     for _ in 0..spoils {
         match random.below(4) {
             0 => {
                 let few = random.index(LENGTH);
                 blocks.truncate(random.pick(&[0, 1, few, LENGTH - 1]));
             }
-            1 => room = wanted.saturating_sub(1 + random.index(wanted + 1)),
+            1 => {
+                // One byte under, or as much as the payloads of edition 2 take.
+                let next = wanted.saturating_sub(1);
+                let narrow = wanted / READER_ROOM * Edition::Two.payload_length();
+                let anywhere = next.saturating_sub(random.index(wanted + 1));
+                room = random.pick(&[next, narrow, anywhere]);
+            }
             2 => label = samples::wrong_label(random),
             _ => label = samples::label(random),
         }

@@ -1,9 +1,10 @@
 //! The eight jobs: each makes the checks it has inputs for, lowest refusal
-//! number first (but 13 before 3), and touches lent memory only when none of
-//! them refuses.
+//! number first (but 13 before 3, and the edition's 9 before 6), and touches
+//! lent memory only when none of them refuses.
 
 use crate::bits;
-use crate::block;
+use crate::block::{self, Heading};
+use crate::edition::{Edition, Origin};
 use crate::record::{self, Kept};
 use crate::refusal::Refusal;
 use crate::sizes::{self, Sizes};
@@ -107,10 +108,12 @@ pub fn thumbnail(
 }
 
 /// Writes the record of the first `count` bits and gives its blocks.
+#[allow(clippy::too_many_arguments)]
 pub fn record_writing(
     k: u32,
     levels: u32,
     planes: u32,
+    origin: Origin,
     label: &[u8],
     bytes: &[u8],
     count: u64,
@@ -118,18 +121,19 @@ pub fn record_writing(
 ) -> Result<u32, Refusal> {
     let sizes = Sizes::new(k, levels)?;
     sizes::check_planes(planes)?;
+    let edition = Edition::new(origin.edition)?;
     Refusal::Room.when(!bits::hold(bytes, count) || count > sizes.most_bits(planes))?;
-    let wanted = record::block_count(count) as usize * block::LENGTH;
+    let wanted = record::block_count(edition, count) as usize * block::LENGTH;
     Refusal::Room.when(room.len() < wanted)?;
     Refusal::Label.when(!block::is_label(label))?;
-    let heading = block::heading(sizes, planes, label);
+    let heading = Heading::new(sizes, planes, origin, label)?;
     Ok(record::write(&heading, bytes, count, room))
 }
 
 /// Keeps what can be kept of a record's blocks.
 pub fn record_reading(blocks: &[u8], label: &[u8], room: &mut [u8]) -> Result<Kept, Refusal> {
     let whole = blocks.len() / block::LENGTH;
-    Refusal::Room.when(whole == 0 || room.len() / block::PAYLOAD_LENGTH < whole)?;
+    Refusal::Room.when(whole == 0 || room.len() / record::READER_ROOM < whole)?;
     Refusal::Label.when(!block::is_label(label))?;
     record::read(blocks, label, room)
 }

@@ -8,6 +8,7 @@ pub mod block;
 pub mod cases;
 pub mod compare;
 pub mod damage;
+pub mod edition;
 pub mod jobs;
 pub mod places;
 pub mod random;

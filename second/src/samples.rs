@@ -1,7 +1,8 @@
-//! Samples to make cases from: sizes, pictures, numbers, bits and labels, each
-//! of many kinds.
+//! Samples to make cases from: sizes, pictures, numbers, bits, labels and
+//! origins, each of many kinds.
 
 use crate::bits;
+use crate::edition::{Edition, Origin, MOST_MOUNT};
 use crate::jobs;
 use crate::random::Random;
 use crate::sizes::{self, Sizes, LARGEST_MAGNITUDE, MOST_PLANES, SMALLEST_K};
@@ -288,4 +289,48 @@ pub fn wrong_label(random: &mut Random) -> Vec<u8> {
         _ => spoil_label(random, &mut label),
     }
     label
+}
+
+/// A mount number, its limits often, and such as fill one of its bytes alone.
+fn mount(random: &mut Random) -> u32 {
+    let any = random.below(u64::from(MOST_MOUNT) + 1) as u32;
+    let one_byte = any & random.pick(&[0xFF, 0xFF00, 0xFF_0000]);
+    random.pick(&[0, 1, MOST_MOUNT, any, any, one_byte])
+}
+
+/// Most often edition 2, in which more can be wrong.
+pub fn edition(random: &mut Random) -> Edition {
+    random.pick(&[Edition::One, Edition::Two, Edition::Two])
+}
+
+/// An arm and a mount number in their ranges.
+pub fn origin(random: &mut Random, edition: Edition) -> Origin {
+    Origin {
+        edition: edition.number(),
+        arm: random.pick(&[1, 2]),
+        mount: mount(random),
+    }
+}
+
+/// Neither 1 nor 2, which are the editions and the arms; some are in their low
+/// byte, or in their low half.
+pub fn neither_1_nor_2(random: &mut Random) -> u32 {
+    let high = random.pick(&[1 << 16, 1 << 31]) + random.pick(&[1, 2]);
+    random.pick(&[0, 3, 255, 256 + 1, 256 + 2, high, u32::MAX])
+}
+
+fn wrong_mount(random: &mut Random) -> u32 {
+    let over = MOST_MOUNT + 1;
+    let high = random.pick(&[over, 1 << 31]) + mount(random);
+    random.pick(&[over, high, u32::MAX])
+}
+
+/// Gives an origin an arm or a mount number, or both, out of their ranges.
+pub fn spoil_names(random: &mut Random, origin: &mut Origin) {
+    let (arm, mount) = (neither_1_nor_2(random), wrong_mount(random));
+    match random.below(5) {
+        0 | 1 => origin.arm = arm,
+        2 | 3 => origin.mount = mount,
+        _ => (origin.arm, origin.mount) = (arm, mount),
+    }
 }

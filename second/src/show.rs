@@ -2,6 +2,7 @@
 //! about it.
 
 use crate::block::{self, LENGTH};
+use crate::edition::Origin;
 use crate::jobs;
 use crate::sizes::{self, Sizes};
 use crate::transcript::{self, Field, Request};
@@ -51,12 +52,22 @@ fn label_text(label: &[u8]) -> String {
     format!("label \"{}\"", label.escape_ascii())
 }
 
+fn origin_text(origin: Origin) -> String {
+    let Origin {
+        edition,
+        arm,
+        mount,
+    } = origin;
+    format!("edition {} arm {} mount {}", edition, arm, mount)
+}
+
 /// A block as its own fields and the single-block check say.
 fn block_text(block: &[u8]) -> String {
     let [k, levels, planes] = block::sizes_field(block);
     let judged = jobs::block_check(block).map_or_else(|refusal| refusal.number(), |()| 0);
     format!(
-        "number {} k {} L {} n {} {} bits {} check {}",
+        "{} number {} k {} L {} n {} {} bits {} check {}",
+        origin_text(Origin::of(block)),
         block::field(block, block::NUMBER),
         k,
         levels,
@@ -160,15 +171,17 @@ fn given(request: &Request) -> String {
             k,
             levels,
             planes,
+            origin,
             label,
             bytes,
             count,
             room,
         } => format!(
-            "record writing k {} L {} n {}, {}, b {} of bytes {}, room {}",
+            "record writing k {} L {} n {}, {}, {}, b {} of bytes {}, room {}",
             k,
             levels,
             planes,
+            origin_text(*origin),
             label_text(label),
             count,
             bytes.len(),

@@ -5,7 +5,7 @@
 
 use crate::block;
 use crate::jobs;
-use crate::record::Kept;
+use crate::record::{Kept, READER_ROOM};
 use crate::refusal::Refusal;
 
 /// What the viewer holds: the side and the levels of the record it has seen
@@ -29,7 +29,7 @@ pub fn leave_in_place(last: &[i32], settled: &[i32]) -> Vec<i32> {
 /// takes the one that stands in block 0.
 pub fn seen(record: &[u8]) -> Result<Held, Refusal> {
     let label = record.get(block::LABEL).unwrap_or_default();
-    let mut room = vec![0; record.len() / block::LENGTH * block::PAYLOAD_LENGTH];
+    let mut room = vec![0; record.len() / block::LENGTH * READER_ROOM];
     let kept = jobs::record_reading(record, label, &mut room)?;
     let Kept {
         k, levels, planes, ..
@@ -59,13 +59,7 @@ impl Held {
         let side = 1 << self.k;
         let mut picture = vec![0; side * side];
         let mut room = vec![0; side * side];
-        jobs::inverse(
-            self.k,
-            self.levels,
-            &self.numbers,
-            &mut picture,
-            &mut room,
-        )?;
+        jobs::inverse(self.k, self.levels, &self.numbers, &mut picture, &mut room)?;
         let comment = "# WRONG ON PURPOSE: numbers of the last label left in place";
         let mut pgm = format!("P5\n{}\n{} {}\n255\n", comment, side, side).into_bytes();
         pgm.extend(picture);

@@ -1,6 +1,7 @@
 //! The transcript: requests and answers as bytes, so that two programs can be
 //! given the same calls and their answers be compared.
 
+use crate::edition::Origin;
 use crate::jobs;
 use crate::refusal::Refusal;
 use std::io::{self, ErrorKind, Read, Write};
@@ -47,6 +48,7 @@ pub enum Request {
         k: u32,
         levels: u32,
         planes: u32,
+        origin: Origin,
         label: Vec<u8>,
         bytes: Vec<u8>,
         count: u64,
@@ -181,6 +183,7 @@ pub fn answer(request: &Request) -> Answer {
             k,
             levels,
             planes,
+            origin,
             label,
             bytes,
             count,
@@ -188,7 +191,7 @@ pub fn answer(request: &Request) -> Answer {
         } => {
             let mut room = lent_bytes(*room);
             let (refusal, blocks) = outcome(jobs::record_writing(
-                *k, *levels, *planes, label, bytes, *count, &mut room,
+                *k, *levels, *planes, *origin, label, bytes, *count, &mut room,
             ));
             vec![
                 ("refusal", refusal),
@@ -211,6 +214,9 @@ pub fn answer(request: &Request) -> Answer {
                 ("blocks", Field::Small(kept.blocks)),
                 ("bits", Field::Large(kept.bits)),
                 ("ended", Field::Small(kept.ended)),
+                ("edition", Field::Small(kept.origin.edition)),
+                ("arm", Field::Small(kept.origin.arm)),
+                ("mount", Field::Small(kept.origin.mount)),
                 ("room", Field::Bytes(room)),
             ]
         }
@@ -255,7 +261,7 @@ pub fn answer_length(request: &Request) -> usize {
             4 + picture + 4 * room
         }
         Request::RecordWriting { room, .. } => 8 + room,
-        Request::RecordReading { room, .. } => 32 + room,
+        Request::RecordReading { room, .. } => 44 + room,
         Request::BlockCheck { .. } => 4,
     }
 }
@@ -370,6 +376,7 @@ pub fn write_request(request: &Request, output: &mut impl Write) -> io::Result<(
             k,
             levels,
             planes,
+            origin,
             label,
             bytes,
             count,
@@ -378,6 +385,9 @@ pub fn write_request(request: &Request, output: &mut impl Write) -> io::Result<(
             .small(*k)
             .small(*levels)
             .small(*planes)
+            .small(origin.edition)
+            .small(origin.arm)
+            .small(origin.mount)
             .list_of_bytes(label)
             .list_of_bytes(bytes)
             .large(*count)
@@ -512,6 +522,11 @@ pub fn read_request(input: &mut impl Read) -> io::Result<Option<Request>> {
             k: input.small()?,
             levels: input.small()?,
             planes: input.small()?,
+            origin: Origin {
+                edition: input.small()?,
+                arm: input.small()?,
+                mount: input.small()?,
+            },
             label: input.list_of_bytes(MOST_LABEL)?,
             bytes: input.list_of_bytes(MOST_BYTES)?,
             count: input.large()?,

@@ -14,7 +14,7 @@ use Rattle.paper.specs.Sizes.{sizeIn, levelsIn, planesIn}
 use Rattle.paper.specs.Lists.{Bytes}
 use Rattle.paper.specs.Walk.{bitOf}
 use Rattle.paper.specs.Bits.{bits, allZero}
-use Rattle.paper.specs.Block.{labelCharacter, labelCharacters, isLabel, blockBytes, payloadStart, payloadOf, plainSum, weighedSum, byteAt, checksRight, fieldsRight, blockRefusal}
+use Rattle.paper.specs.Block.{labelCharacter, labelCharacters, isLabel, editionIn, blockBytes, startOf, payloadOf, plainSum, weighedSum, byteAt, checksRight, originRight, fieldsRight, blockRefusal}
 use Rattle.paper.specs.Cases.{block417}
 use Rattle.check_laws.specs.Damage.{Passes, Caught, changed, exchanged}
 use Rattle.check_laws.specs.Same.{one-same, ordered-same}
@@ -23,14 +23,11 @@ use Rattle.check_laws.specs.Same.{one-same, ordered-same}
 -- A and B are judged before the fields
 caught : (t : List ℕ) → length t ≡ blockBytes → (checksRight t ≡ true → ⊥) → Caught t
 unfolding blockRefusal
-caught t long not = record { long = long; wrong = wrong (checksRight t) not; refused = refused }
+caught t long not = record { long = long; wrong = wrong (checksRight t) not; refused = rw (eq-eqb _ _ long, wrong (checksRight t) not) }
   where
     wrong : (c : Bool) → (c ≡ true → ⊥) → c ≡ false
     wrong true not = absurd (not refl)
     wrong false not = refl
-
-    refused : (start : ℕ) → blockRefusal start t ≡ 8
-    refused start = rw (eq-eqb _ _ long, wrong (checksRight t) not)
 
 bytes-set : (s : List ℕ) (i v : ℕ) → i < length s → v < 256 → Bytes s → Bytes (set s i v)
 bytes-set s i v h small bytes x = elim (ℕ-discrete x i) [
@@ -74,6 +71,6 @@ module _ (block : List ℕ) (p : Passes block) where
 
 -- ---- what the check does not catch
 -- Three bytes in a row, changed by 1, -2 and 1: the flat block labelled 00000417 becomes one labelled 00001227, and passes.
-pub three-bytes-may-pass : (blockRefusal payloadStart block417 ≡ 0) × (blockRefusal payloadStart (changed 10 0x32 (changed 9 0x32 (changed 8 0x31 block417))) ≡ 0)
-unfolding sizeIn levelsIn planesIn bitOf bits allZero labelCharacter labelCharacters isLabel plainSum weighedSum payloadOf checksRight fieldsRight blockRefusal
+pub three-bytes-may-pass : (blockRefusal block417 ≡ 0) × (blockRefusal (changed 10 0x32 (changed 9 0x32 (changed 8 0x31 block417))) ≡ 0)
+unfolding sizeIn levelsIn planesIn bitOf bits allZero labelCharacter labelCharacters isLabel plainSum weighedSum editionIn startOf payloadOf checksRight originRight fieldsRight blockRefusal
 three-bytes-may-pass = (refl, refl)

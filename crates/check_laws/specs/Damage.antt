@@ -6,7 +6,7 @@ use Prim.Native.Nat.{ℕ, zero, suc}
 use native.Mathlib.Omega.{arith}
 use lib.ListN.{length, set, replicate}
 use Rattle.paper.specs.Lists.{Bytes}
-use Rattle.paper.specs.Block.{blockBytes, payloadStart, byteAt, plainSum, weighedSum, checksRight, fieldsRight, blockRefusal}
+use Rattle.paper.specs.Block.{blockBytes, byteAt, plainSum, weighedSum, checksRight, editionIn, originRight, blockRefusal}
 use Rattle.paper.specs.Cases.{block417}
 
 -- 512 bytes that pass their check: A and B are right, whatever the fields say
@@ -23,11 +23,11 @@ changed i v block = set block i v
 abbrev pub exchanged : ℕ → ℕ → List ℕ → List ℕ
 exchanged i j block = changed j (byteAt block i) (changed i (byteAt block j) block)
 
--- A or B of these 512 bytes is wrong, and the single-block check answers 8, wherever the payload starts
+-- A or B of these 512 bytes is wrong, and the single-block check answers 8, whatever the edition
 pub record Caught (block : List ℕ) : Type 0 where
   pub long : length block ≡ blockBytes
   pub wrong : checksRight block ≡ false
-  pub refused : (start : ℕ) → blockRefusal start block ≡ 8
+  pub refused : blockRefusal block ≡ 8
 
 -- ---- the words at work
 -- 512 zero bytes pass their check: what refuses them is the edition
@@ -39,8 +39,8 @@ zero-at zero i = refl
 zero-at (suc n) zero = refl
 zero-at (suc n) (suc i) = zero-at n i
 
-pub zeros-pass : Passes zeros × (blockRefusal payloadStart zeros ≡ 9)
-unfolding plainSum weighedSum checksRight fieldsRight blockRefusal
+pub zeros-pass : Passes zeros × (blockRefusal zeros ≡ 9)
+unfolding plainSum weighedSum checksRight editionIn originRight blockRefusal
 zeros-pass = (record { long = refl; bytes = λ i. rw (zero-at blockBytes i) (omega arith); right = refl }, refl)
 
 -- the flat block labelled 00000417: its byte 3 is 0x00, and its last, of check B, 0x54

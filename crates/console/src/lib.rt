@@ -73,19 +73,22 @@ pub extern "C" fn label_write(
     k: u32,
     levels: u32,
     n: u32,
+    edition: u32,
+    arm: u32,
+    mount: u32,
     label: &[u8],
     bytes: &[u8],
     b: usize,
     room: &mut [u8],
 ) -> Blocks
-    ensures { λ r. ⌜ writingJob k levels n (now (label .entry)) (now (bytes .entry)) b (now (room .entry)) ≡ record { refusal = r .refusal; blocks = r .blocks; room = now (room .exit) } ⌝ }
+    ensures { λ r. ⌜ writingJob k levels n (record { edition = edition; arm = arm; mount = mount }) (now (label .entry)) (now (bytes .entry)) b (now (room .entry)) ≡ record { refusal = r .refusal; blocks = r .blocks; room = now (room .exit) } ⌝ }
 {
-    label::write(k, levels, n, label, bytes, b, room)
+    label::write(k, levels, n, edition, arm, mount, label, bytes, b, room)
 }
 
 #[no_mangle]
 pub extern "C" fn label_read(blocks: &[u8], label: &[u8], room: &mut [u8]) -> Kept
-    ensures { λ r. ⌜ readingJob (now (blocks .entry)) (now (label .entry)) (now (room .entry)) ≡ record { refusal = r .refusal; k = r .k; L = r .levels; n = r .n; blocks = r .blocks; bits = r .bits; ended = r .ended; room = now (room .exit) } ⌝ }
+    ensures { λ r. ⌜ readingJob (now (blocks .entry)) (now (label .entry)) (now (room .entry)) ≡ record { refusal = r .refusal; k = r .k; L = r .levels; n = r .n; blocks = r .blocks; bits = r .bits; ended = r .ended; edition = r .edition; arm = r .arm; mount = r .mount; room = now (room .exit) } ⌝ }
 {
     label::read(blocks, label, room)
 }

@@ -29,7 +29,7 @@ fn write_help(fd: i32) {
     );
     pipes::write_all(
         fd,
-        b"What can't be promised: blocks of two shots under one label, with the same side,\nlevels and planes, splice unnoticed in edition 1, and no line here tells.\nEdition 2's mount number (to come) closes this.\n",
+        b"What can't be promised: blocks of two shots under one label, with the same side,\nlevels and planes, splice unnoticed in edition 1, in edition 2 only if arm and\nmount number are the same too; no line here tells.\n",
     );
 }
 
@@ -120,6 +120,9 @@ fn rebuild(
         kept.k,
         kept.levels,
         halvings,
+        kept.edition,
+        kept.arm,
+        kept.mount,
         kept.n,
         kept.blocks,
         kept.bits,
@@ -149,7 +152,7 @@ fn decode(wanted: Wanted, room: &mut [u8], count: usize, label: &[u8], line: &mu
     if MOST_HELD < kept.k {
         return side_line(label, kept.k, line);
     }
-    let mut ended = [0u8; 320];
+    let mut ended = [0u8; 464];
     let told = faults::ended(kept.ended, &room[..count], label, kept.blocks, &mut ended);
     rebuild(wanted, kept, &payload, label, &ended[..told], room, line)
 }
@@ -194,7 +197,7 @@ fn run(line: &mut [u8]) -> usize {
         return 0;
     }
     if fields::same_bytes(&label[..count], b"--version") {
-        pipes::write_all(STDOUT_FILENO, b"decode 0.4.0\n");
+        pipes::write_all(STDOUT_FILENO, b"decode 0.5.0\n");
         return 0;
     }
     if fields::same_bytes(&label[..count], b"--thumbnail") {
@@ -208,7 +211,7 @@ fn run(line: &mut [u8]) -> usize {
 }
 
 fn main() {
-    let mut line = [0u8; 672];
+    let mut line = [0u8; 864];
     let count = run(&mut line);
     pipes::write_front(STDERR_FILENO, &line, count);
 }

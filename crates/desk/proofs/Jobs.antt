@@ -11,21 +11,22 @@ use borrow.Author.Tests.{le-leb, lt-leb}
 use Rattle.sizes.proofs.Refusals.{refused-is, done-is}
 use Rattle.paper.specs.Jobs.{Forward, forwardJob, Coding, codingJob, Writing, writingJob, Decoding, decodingJob, Inverse}
 use Rattle.paper.specs.Lists.{pick}
+use Rattle.paper.specs.Block.{Origin}
 use Rattle.desk.specs.declared.Wanted.{Wanted}
 use Rattle.desk.specs.Desk.{areaOf, Encoding, encodingOf, encodingIn, halvingsOf, shownJob, Rebuilding, rebuildingOf, rebuildingIn}
 
 -- ---- a picture made a record
-module _ (k L : ℕ) (picture label : List ℕ) (limit : ℕ) (numbers : List ℤ) (bytes room : List ℕ) (f : Forward) (e : forwardJob k L picture numbers ≡ f) where
-  pub forward-refused : (f .refusal ≡ 0 → ⊥) → encodingOf k L picture label limit numbers bytes room ≡ record { refusal = f .refusal; blocks = 0; numbers = f .numbers; bytes = bytes; room = room }
+module _ (k L : ℕ) (o : Origin) (picture label : List ℕ) (limit : ℕ) (numbers : List ℤ) (bytes room : List ℕ) (f : Forward) (e : forwardJob k L picture numbers ≡ f) where
+  pub forward-refused : (f .refusal ≡ 0 → ⊥) → encodingOf k L o picture label limit numbers bytes room ≡ record { refusal = f .refusal; blocks = 0; numbers = f .numbers; bytes = bytes; room = room }
   unfolding encodingOf
   forward-refused h = rw e (refused-is (f .refusal) _ _ (omega arith))
 
   module _ (z : f .refusal ≡ 0) (c : Coding) (d : codingJob k L (f .numbers) limit bytes ≡ c) where
-    pub code-refused : (c .refusal ≡ 0 → ⊥) → encodingOf k L picture label limit numbers bytes room ≡ record { refusal = c .refusal; blocks = 0; numbers = f .numbers; bytes = c .bytes; room = room }
+    pub code-refused : (c .refusal ≡ 0 → ⊥) → encodingOf k L o picture label limit numbers bytes room ≡ record { refusal = c .refusal; blocks = 0; numbers = f .numbers; bytes = c .bytes; room = room }
     unfolding encodingOf
     code-refused h = rw (e, d) (done-is (f .refusal) _ _ z ∙ refused-is (c .refusal) _ _ (omega arith))
 
-    pub encoded-is : (w : Writing) → c .refusal ≡ 0 → writingJob k L (c .n) label (c .bytes) (c .written) room ≡ w → encodingOf k L picture label limit numbers bytes room ≡ record { refusal = w .refusal; blocks = w .blocks; numbers = f .numbers; bytes = c .bytes; room = w .room }
+    pub encoded-is : (w : Writing) → c .refusal ≡ 0 → writingJob k L (c .n) o label (c .bytes) (c .written) room ≡ w → encodingOf k L o picture label limit numbers bytes room ≡ record { refusal = w .refusal; blocks = w .blocks; numbers = f .numbers; bytes = c .bytes; room = w .room }
     unfolding encodingOf
     encoded-is w y g = rw (e, d, g) (done-is (f .refusal) _ _ z ∙ done-is (c .refusal) _ _ y)
 
@@ -40,21 +41,21 @@ module _ (wanted : Wanted) (k L n : ℕ) (bytes : List ℕ) (b : ℕ) (numbers :
   rebuilt-is i z f = rw (e, f) (done-is (d .refusal) _ _ z)
 
 -- ---- in longer buffers
-module _ (k L : ℕ) (input : List ℕ) (start : ℕ) (label : List ℕ) (limit : ℕ) (numbers : List ℤ) (bytes room : List ℕ) (area : ℕ) (a : area ≡ areaOf k) where
+module _ (k L : ℕ) (o : Origin) (input : List ℕ) (start : ℕ) (label : List ℕ) (limit : ℕ) (numbers : List ℤ) (bytes room : List ℕ) (area : ℕ) (a : area ≡ areaOf k) where
   abbrev short : Encoding
   short = record { refusal = 3; blocks = 0; numbers = numbers; bytes = bytes; room = room }
 
-  pub input-short : length input < start + area → encodingIn k L input start label limit numbers bytes room ≡ short
+  pub input-short : length input < start + area → encodingIn k L o input start label limit numbers bytes room ≡ short
   unfolding encodingIn
   input-short h = rw (← a, lt-leb (start + area) (length input) h)
 
-  pub numbers-short : start + area ≤ length input → length numbers < area → encodingIn k L input start label limit numbers bytes room ≡ short
+  pub numbers-short : start + area ≤ length input → length numbers < area → encodingIn k L o input start label limit numbers bytes room ≡ short
   unfolding encodingIn
   numbers-short l h = rw (← a, le-leb (start + area) (length input) l, lt-leb area (length numbers) h)
 
   pub encoded-front : (e : Encoding) → start + area ≤ length input → area ≤ length numbers
-      → encodingOf k L (take (start + area - start) (drop start input)) label limit (take area numbers) bytes room ≡ e
-      → encodingIn k L input start label limit numbers bytes room ≡ record { refusal = e .refusal; blocks = e .blocks; numbers = e .numbers ++ drop area numbers; bytes = e .bytes; room = e .room }
+      → encodingOf k L o (take (start + area - start) (drop start input)) label limit (take area numbers) bytes room ≡ e
+      → encodingIn k L o input start label limit numbers bytes room ≡ record { refusal = e .refusal; blocks = e .blocks; numbers = e .numbers ++ drop area numbers; bytes = e .bytes; room = e .room }
   unfolding encodingIn
   encoded-front e l h f =
       let s : start + area - start ≡ area = omega arith in

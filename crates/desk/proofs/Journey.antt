@@ -16,6 +16,7 @@ use lib.IntN.{ℤ}
 use lib.ListN.{length, take, drop}
 use Rattle.paper.specs.Lists.{pick}
 use Rattle.paper.specs.Sizes.{judged}
+use Rattle.paper.specs.Block.{Origin}
 use Rattle.paper.specs.Jobs.{Forward, forwardJob, Coding, codingJob, Writing, writingJob, Decoding, decodingJob, Inverse, Read, readingJob}
 use Rattle.label.specs.Journey.{intoRecord, Seen, seenBy, outOfRecord, thumbnailOutOfRecord}
 use Rattle.desk.specs.declared.Wanted.{Wanted}
@@ -41,23 +42,23 @@ none-refused zero zero w numbers bytes coded room h = ap {B = Writing} (λ (r : 
 none-refused zero (suc b) w numbers bytes coded room h = absurd (omega arith)
 none-refused (suc a) b w numbers bytes coded room h = absurd (omega arith)
 
-encoding-into-record : (k L : ℕ) (picture label : List ℕ) (limit : ℕ) (numbers : List ℤ) (bytes room : List ℕ) →
-    let e = encodingOf k L picture label limit numbers bytes room in
-    e .refusal ≡ 0 → intoRecord k L label picture limit numbers bytes room ≡ record { refusal = 0; blocks = e .blocks; room = e .room }
+encoding-into-record : (k L : ℕ) (o : Origin) (picture label : List ℕ) (limit : ℕ) (numbers : List ℤ) (bytes room : List ℕ) →
+    let e = encodingOf k L o picture label limit numbers bytes room in
+    e .refusal ≡ 0 → intoRecord k L o label picture limit numbers bytes room ≡ record { refusal = 0; blocks = e .blocks; room = e .room }
 unfolding encodingOf intoRecord
-encoding-into-record k L picture label limit numbers bytes room h =
+encoding-into-record k L o picture label limit numbers bytes room h =
     let f = forwardJob k L picture numbers in
     let c = codingJob k L (f .numbers) limit bytes in
-    none-refused (f .refusal) (c .refusal) (writingJob k L (c .n) label (c .bytes) (c .written) room) (f .numbers) bytes (c .bytes) room h
+    none-refused (f .refusal) (c .refusal) (writingJob k L (c .n) o label (c .bytes) (c .written) room) (f .numbers) bytes (c .bytes) room h
 
-encoding-in : (k L : ℕ) (input : List ℕ) (start : ℕ) (label : List ℕ) (limit : ℕ) (numbers : List ℤ) (bytes room : List ℕ) (e : Encoding)
-    → encodingIn k L input start label limit numbers bytes room ≡ e → e .refusal ≡ 0
-    → intoRecord k L label (take (areaOf k) (drop start input)) limit (take (areaOf k) numbers) bytes room ≡ record { refusal = 0; blocks = e .blocks; room = e .room }
+encoding-in : (k L : ℕ) (o : Origin) (input : List ℕ) (start : ℕ) (label : List ℕ) (limit : ℕ) (numbers : List ℤ) (bytes room : List ℕ) (e : Encoding)
+    → encodingIn k L o input start label limit numbers bytes room ≡ e → e .refusal ≡ 0
+    → intoRecord k L o label (take (areaOf k) (drop start input)) limit (take (areaOf k) numbers) bytes room ≡ record { refusal = 0; blocks = e .blocks; room = e .room }
 unfolding encodingIn
-encoding-in k L input start label limit numbers bytes room e p h =
+encoding-in k L o input start label limit numbers bytes room e p h =
     let area = areaOf k in
     let is = not-3 (λ (e : Encoding). e .refusal) (leb (start + area) (length input) && leb area (length numbers)) _ _ e refl p h in
-    encoding-into-record k L (take area (drop start input)) label limit (take area numbers) bytes room (ap (λ (e : Encoding). e .refusal) is ∙ h)
+    encoding-into-record k L o (take area (drop start input)) label limit (take area numbers) bytes room (ap (λ (e : Encoding). e .refusal) is ∙ h)
     ∙ ap {B = Writing} (λ (e : Encoding). record { refusal = 0; blocks = e .blocks; room = e .room }) is
 
 -- Where encode does not refuse, the blocks that it counts and leaves in the room are the record of the picture at its place.
@@ -65,15 +66,16 @@ pub encode-into-record : (κs : Lfts 5) (a : ArgsD encode-fn.signature κs) (r :
     → encode-contract.Post κs a r s → r .refusal ≡ 0 →
     let k = a .0 in
     let L = a .1 .0 in
-    let input = now (a .1 .1 .0) in
-    let start = a .1 .1 .1 .0 in
-    let label = now (a .1 .1 .1 .1 .0) in
-    let limit = a .1 .1 .1 .1 .1 .0 in
-    let numbers = now (a .1 .1 .1 .1 .1 .1 .0) in
-    let bytes = now (a .1 .1 .1 .1 .1 .1 .1 .0) in
-    let room = now (a .1 .1 .1 .1 .1 .1 .1 .1 .0) in
-    intoRecord k L label (take (areaOf k) (drop start input)) limit (take (areaOf k) numbers) bytes room ≡ record { refusal = 0; blocks = r .blocks; room = now (s .1 .1 .1 .1 .1 .1 .1 .1 .0) }
-encode-into-record κs a r s x h = encoding-in _ _ _ _ _ _ _ _ _ _ x h
+    let o : Origin = record { edition = a .1 .1 .0; arm = a .1 .1 .1 .0; mount = a .1 .1 .1 .1 .0 } in
+    let input = now (a .1 .1 .1 .1 .1 .0) in
+    let start = a .1 .1 .1 .1 .1 .1 .0 in
+    let label = now (a .1 .1 .1 .1 .1 .1 .1 .0) in
+    let limit = a .1 .1 .1 .1 .1 .1 .1 .1 .0 in
+    let numbers = now (a .1 .1 .1 .1 .1 .1 .1 .1 .1 .0) in
+    let bytes = now (a .1 .1 .1 .1 .1 .1 .1 .1 .1 .1 .0) in
+    let room = now (a .1 .1 .1 .1 .1 .1 .1 .1 .1 .1 .1 .0) in
+    intoRecord k L o label (take (areaOf k) (drop start input)) limit (take (areaOf k) numbers) bytes room ≡ record { refusal = 0; blocks = r .blocks; room = now (s .1 .1 .1 .1 .1 .1 .1 .1 .1 .1 .1 .0) }
+encode-into-record κs a r s x h = encoding-in _ _ _ _ _ _ _ _ _ _ _ x h
 
 -- ---- out of a record
 one-refused : (a : ℕ) (d : Decoding) (i : Inverse) (picture : List ℕ) (room : List ℤ) →

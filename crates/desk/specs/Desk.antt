@@ -8,6 +8,7 @@ use lib.IntN.{ℤ}
 use lib.ListN.{take, drop, length}
 use Rattle.paper.specs.Lists.{pick}
 use Rattle.paper.specs.Sizes.{unless, judged}
+use Rattle.paper.specs.Block.{Origin}
 use Rattle.paper.specs.Jobs.{Forward, forwardJob, Coding, codingJob, Writing, writingJob, Decoding, decodingJob, Inverse, inverseJob, thumbnailJob}
 use Rattle.pgm.specs.declared.Header.{Header}
 use Rattle.square_pgm.specs.Sides.{mostHeld, sideOf}
@@ -44,11 +45,11 @@ pub record Encoding : Type 0 where
   pub bytes : List ℕ
   pub room : List ℕ
 
-unfoldable pub encodingOf : ℕ → ℕ → List ℕ → List ℕ → ℕ → List ℤ → List ℕ → List ℕ → Encoding
-encodingOf k L picture label limit numbers bytes room =
+unfoldable pub encodingOf : ℕ → ℕ → Origin → List ℕ → List ℕ → ℕ → List ℤ → List ℕ → List ℕ → Encoding
+encodingOf k L o picture label limit numbers bytes room =
     let f = forwardJob k L picture numbers in
     let c = codingJob k L (f .numbers) limit bytes in
-    let w = writingJob k L (c .n) label (c .bytes) (c .written) room in
+    let w = writingJob k L (c .n) o label (c .bytes) (c .written) room in
     judged (f .refusal)
     (λ r. record { refusal = r; blocks = 0; numbers = f .numbers; bytes = bytes; room = room })
     (judged (c .refusal)
@@ -84,10 +85,10 @@ rebuildingOf wanted k L n bytes b numbers picture room =
 
 -- ---- the same, with buffers that are as long as the largest picture needs: the front of each is used
 -- the picture at a place of the input; 3 where a buffer is too short
-unfoldable pub encodingIn : ℕ → ℕ → List ℕ → ℕ → List ℕ → ℕ → List ℤ → List ℕ → List ℕ → Encoding
-encodingIn k L input start label limit numbers bytes room =
+unfoldable pub encodingIn : ℕ → ℕ → Origin → List ℕ → ℕ → List ℕ → ℕ → List ℤ → List ℕ → List ℕ → Encoding
+encodingIn k L o input start label limit numbers bytes room =
     let area = areaOf k in
-    let e = encodingOf k L (take area (drop start input)) label limit (take area numbers) bytes room in
+    let e = encodingOf k L o (take area (drop start input)) label limit (take area numbers) bytes room in
     pick (leb (start + area) (length input) && leb area (length numbers))
     (record { refusal = e .refusal; blocks = e .blocks; numbers = e .numbers ++ drop area numbers; bytes = e .bytes; room = e .room })
     (record { refusal = 3; blocks = 0; numbers = numbers; bytes = bytes; room = room })

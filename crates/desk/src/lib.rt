@@ -8,14 +8,15 @@ use pgm::Header;
 use record::Blocks;
 use square_pgm::MOST_HELD;
 
-// What the programs hold: the greys of the largest square, the most blocks of its record, and their bytes and payload.
+// What the programs hold: the greys of the largest square, the most blocks of its record in any edition, their bytes and
+// their payload.
 pub const MOST_GREYS: usize = 4096;
 
 pub const MOST_BLOCKS: usize = 27;
 
 pub const RECORD_BYTES: usize = block::BLOCK * MOST_BLOCKS;
 
-pub const PAYLOAD_ROOM: usize = block::PAYLOAD_BYTES * MOST_BLOCKS;
+pub const PAYLOAD_ROOM: usize = block::ROOM * MOST_BLOCKS;
 
 // What is wrong with a PGM, and its picture's k.
 pub struct Found {
@@ -67,6 +68,9 @@ pub fn find(header: Header, bytes: usize) -> Found
 fn encoded(
     k: u32,
     levels: u32,
+    edition: u32,
+    arm: u32,
+    mount: u32,
     picture: &[u8],
     label: &[u8],
     limit: usize,
@@ -74,7 +78,7 @@ fn encoded(
     bytes: &mut [u8],
     room: &mut [u8],
 ) -> Blocks
-    ensures { λ r. ⌜ encodingOf k levels (now (picture .entry)) (now (label .entry)) limit (now (numbers .entry)) (now (bytes .entry)) (now (room .entry)) ≡ record { refusal = r .refusal; blocks = r .blocks; numbers = now (numbers .exit); bytes = now (bytes .exit); room = now (room .exit) } ⌝ }
+    ensures { λ r. ⌜ encodingOf k levels (record { edition = edition; arm = arm; mount = mount }) (now (picture .entry)) (now (label .entry)) limit (now (numbers .entry)) (now (bytes .entry)) (now (room .entry)) ≡ record { refusal = r .refusal; blocks = r .blocks; numbers = now (numbers .exit); bytes = now (bytes .exit); room = now (room .exit) } ⌝ }
 {
     let planes = label::forward(k, levels, picture, numbers);
     if planes.refusal != 0 {
@@ -90,7 +94,9 @@ fn encoded(
             blocks: 0,
         };
     }
-    label::write(k, levels, written.n, label, bytes, written.bits, room)
+    let n = written.n;
+    let b = written.bits;
+    label::write(k, levels, n, edition, arm, mount, label, bytes, b, room)
 }
 
 // The picture of side 2 ^ k at place `start` of the input made a record, at the front of the room. The numbers' buffer may
@@ -98,6 +104,9 @@ fn encoded(
 pub fn encode(
     k: u32,
     levels: u32,
+    edition: u32,
+    arm: u32,
+    mount: u32,
     input: &[u8],
     start: usize,
     label: &[u8],
@@ -106,7 +115,7 @@ pub fn encode(
     bytes: &mut [u8],
     room: &mut [u8],
 ) -> Blocks
-    ensures { λ r. ⌜ encodingIn k levels (now (input .entry)) start (now (label .entry)) limit (now (numbers .entry)) (now (bytes .entry)) (now (room .entry)) ≡ record { refusal = r .refusal; blocks = r .blocks; numbers = now (numbers .exit); bytes = now (bytes .exit); room = now (room .exit) } ⌝ }
+    ensures { λ r. ⌜ encodingIn k levels (record { edition = edition; arm = arm; mount = mount }) (now (input .entry)) start (now (label .entry)) limit (now (numbers .entry)) (now (bytes .entry)) (now (room .entry)) ≡ record { refusal = r .refusal; blocks = r .blocks; numbers = now (numbers .exit); bytes = now (bytes .exit); room = now (room .exit) } ⌝ }
 {
     let area = area(k);
     if input.len() < start {
@@ -131,6 +140,9 @@ pub fn encode(
     encoded(
         k,
         levels,
+        edition,
+        arm,
+        mount,
         &input[start..end],
         label,
         limit,

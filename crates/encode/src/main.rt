@@ -1,7 +1,9 @@
-// encode LABEL LEVELS [BITS] < picture.pgm > record
+// encode [--arm ARM --mount MOUNT] LABEL LEVELS [BITS] < picture.pgm > record
 //
-// Makes a record of a square picture, side 8 to 64, of all its bits or of the first BITS. Where something is wrong, one line
-// on standard error says what, and nothing is written. docs/MEMORY.md has the sum of the buffers.
+// Makes a record of a square picture, side 8 to 64, of all its bits or of the first BITS: of edition 2 where arm and mount number
+// are given, else of edition 1. Where something is wrong, one line on standard error says what, and nothing is written.
+// docs/MEMORY.md has the sum of the buffers.
+ghost use Prim.Native.Nat.{_≤_};
 use block::BLOCK;
 use desk::MOST_BLOCKS;
 use desk::MOST_GREYS;
@@ -11,16 +13,24 @@ use libc::STDERR_FILENO;
 use libc::STDIN_FILENO;
 use libc::STDOUT_FILENO;
 use pgm::Header;
+use pgm::MOST_NUMBER;
 use pgm::Number;
 
 // What is read of a picture, header and greys, and before it of an argument in digits.
 const INPUT_BYTES: usize = 12288;
 
+// What the record is to say of where the picture was shot. Edition 1 says nothing of it.
+struct Origin {
+    edition: u32,
+    arm: u32,
+    mount: u32,
+}
+
 // The program's own text, also for a person who used it wrongly.
 fn write_help(fd: i32) {
     pipes::write_all(
         fd,
-        b"usage: encode LABEL LEVELS [BITS] < picture.pgm > record\n\nMakes a record of a square grey picture (binary PGM, side 8, 16, 32 or 64).\n  LABEL   eight characters, 0-9 or A-Z, as on the cartridge; leading zeros count\n",
+        b"usage: encode [--arm ARM --mount MOUNT] LABEL LEVELS [BITS]\n           < picture.pgm > record\n\nMakes a record of a square grey picture (binary PGM, side 8, 16, 32 or 64).\n  LABEL   eight characters, 0-9 or A-Z, as on the cartridge; leading zeros count\n",
     );
     pipes::write_all(
         fd,
@@ -28,7 +38,11 @@ fn write_help(fd: i32) {
     );
     pipes::write_all(
         fd,
-        b"  BITS    keep the first BITS bits only: a coarser picture in fewer blocks, 3936\n          bits to each. Without it, or beyond the picture's bits, all are kept\n",
+        b"  BITS    keep the first BITS bits only: a coarser picture in fewer blocks, 3936\n          bits to each, or 3904 in edition 2. Without it, or beyond the bits of\n          the picture, all are kept\n",
+    );
+    pipes::write_all(
+        fd,
+        b"  ARM     the arm that shot it, 1 or 2; with ARM and MOUNT the record is of\n          edition 2, which names both, and without them of edition 1\n  MOUNT   the arm's mount number, from 0 to 16777215\n",
     );
     pipes::write_all(
         fd,
@@ -40,13 +54,13 @@ fn write_help(fd: i32) {
 
 fn greys_line(most: u32, line: &mut [u8]) -> usize {
     let greys = words::put_figure(b"REFUSED: the greys run to ", most as u64, line, 0);
-    if most == 999999 {
+    if most == MOST_NUMBER {
         return words::put(b" or more, and not to 255\n", line, greys);
     }
     words::put(b", and not to 255\n", line, greys)
 }
 
-// From 999,999 on all sides are taken for one, so none of six digits is named.
+// A side of six digits or more is not named: the largest numbers are all taken for one.
 fn sides_line(width: u32, height: u32, line: &mut [u8]) -> usize {
     if 99999 < width || 99999 < height {
         return words::put(
@@ -106,7 +120,14 @@ fn write_record(room: &[u8], blocks: usize, line: &mut [u8]) -> usize {
     words::put(b"REFUSED: standard output could not be written\n", line, 0)
 }
 
-fn encode(input: &[u8], label: &[u8], levels: u32, limit: usize, line: &mut [u8]) -> usize {
+fn encode(
+    origin: Origin,
+    input: &[u8],
+    label: &[u8],
+    levels: u32,
+    limit: usize,
+    line: &mut [u8],
+) -> usize {
     let header = pgm::read_header(input);
     let found = desk::find(header, input.len());
     if found.fault != 0 {
@@ -118,6 +139,9 @@ fn encode(input: &[u8], label: &[u8], levels: u32, limit: usize, line: &mut [u8]
     let made = desk::encode(
         found.k,
         levels,
+        origin.edition,
+        origin.arm,
+        origin.mount,
         input,
         header.start,
         label,
@@ -132,9 +156,17 @@ fn encode(input: &[u8], label: &[u8], levels: u32, limit: usize, line: &mut [u8]
     write_record(&room, made.blocks, line)
 }
 
-fn read_and_encode(room: &mut [u8], levels: u32, limit: usize, line: &mut [u8]) -> usize {
+// LABEL is argument `first`.
+fn read_and_encode(
+    origin: Origin,
+    first: usize,
+    room: &mut [u8],
+    levels: u32,
+    limit: usize,
+    line: &mut [u8],
+) -> usize {
     let mut label = [0u8; 16];
-    let label_count = os::arg(1, &mut label);
+    let label_count = os::arg(first, &mut label);
     let filled = pipes::read_all(STDIN_FILENO, room);
     let count = filled.count;
     if filled.failed {
@@ -143,50 +175,113 @@ fn read_and_encode(room: &mut [u8], levels: u32, limit: usize, line: &mut [u8]) 
     if count == 0 {
         return words::put(b"REFUSED: nothing came on standard input\n", line, 0);
     }
-    encode(&room[..count], &label[..label_count], levels, limit, line)
+    encode(
+        origin,
+        &room[..count],
+        &label[..label_count],
+        levels,
+        limit,
+        line,
+    )
 }
 
-// The bit limit, which is beyond all bits where it is not given.
-fn limit_argument(given: usize, room: &mut [u8]) -> Number {
-    if given == 4 {
-        return arguments::number(3, room);
+// The bit limit, argument i, which is beyond all bits where it is not given.
+fn limit_argument(i: usize, room: &mut [u8]) -> Number {
+    if i < os::arg_count() {
+        return arguments::number(i, room);
     }
     Number {
-        value: 999999,
-        next: 6,
+        value: MOST_NUMBER,
+        next: 8,
     }
 }
 
-fn read_arguments(given: usize, line: &mut [u8]) -> usize {
-    let mut room = [0u8; INPUT_BYTES];
-    let levels = arguments::number(2, &mut room);
+// LEVELS and BITS stand behind LABEL, which is argument `first`.
+fn read_operands(origin: Origin, first: usize, room: &mut [u8], line: &mut [u8]) -> usize
+    requires { ⌜ first ≤ 5 ⌝ }
+{
+    let levels = arguments::number(first + 1, room);
     if levels.next == 0 {
         return arguments::number_line(b"LEVELS", INPUT_BYTES, line);
     }
-    let limit = limit_argument(given, &mut room);
+    let limit = limit_argument(first + 2, room);
     if limit.next == 0 {
         return arguments::number_line(b"BITS", INPUT_BYTES, line);
     }
-    read_and_encode(&mut room, levels.value, limit.value as usize, line)
+    read_and_encode(
+        origin,
+        first,
+        room,
+        levels.value,
+        limit.value as usize,
+        line,
+    )
+}
+
+// Numbers are read through the room that the picture will have. ARM is argument 2 and MOUNT argument 4, where they are given.
+fn read_arguments(named: bool, line: &mut [u8]) -> usize {
+    let mut room = [0u8; INPUT_BYTES];
+    if !named {
+        let origin = Origin {
+            edition: 1,
+            arm: 0,
+            mount: 0,
+        };
+        return read_operands(origin, 1, &mut room, line);
+    }
+    let arm = arguments::number(2, &mut room);
+    if arm.next == 0 {
+        return arguments::number_line(b"ARM", INPUT_BYTES, line);
+    }
+    let mount = arguments::number(4, &mut room);
+    if mount.next == 0 {
+        return arguments::number_line(b"MOUNT", INPUT_BYTES, line);
+    }
+    let origin = Origin {
+        edition: 2,
+        arm: arm.value,
+        mount: mount.value,
+    };
+    read_operands(origin, 5, &mut room, line)
+}
+
+// Whether argument i is this word.
+fn is_word(i: usize, word: &[u8]) -> bool {
+    let mut given = [0u8; 16];
+    let count = os::arg(i, &mut given);
+    fields::same_bytes(&given[..count], word)
+}
+
+// Whether LABEL, LEVELS and at most BITS stand from argument `first` on.
+fn operands_given(first: usize) -> bool
+    requires { ⌜ first ≤ 5 ⌝ }
+{
+    let mut label = [0u8; 16];
+    let count = os::arg(first, &mut label);
+    if arguments::is_option(&label[..count]) {
+        return false;
+    }
+    let given = os::arg_count();
+    first + 2 <= given && given <= first + 3
 }
 
 fn run(line: &mut [u8]) -> usize {
-    let mut word = [0u8; 16];
-    let count = os::arg(1, &mut word);
-    if fields::same_bytes(&word[..count], b"--help") {
+    if is_word(1, b"--help") {
         write_help(STDOUT_FILENO);
         return 0;
     }
-    if fields::same_bytes(&word[..count], b"--version") {
-        pipes::write_all(STDOUT_FILENO, b"encode 0.4.0\n");
+    if is_word(1, b"--version") {
+        pipes::write_all(STDOUT_FILENO, b"encode 0.5.0\n");
         return 0;
     }
-    let given = os::arg_count();
-    if given < 3 || 4 < given || arguments::is_option(&word[..count]) {
-        write_help(STDERR_FILENO);
-        return 0;
+    if operands_given(1) {
+        return read_arguments(false, line);
     }
-    read_arguments(given, line)
+    if is_word(1, b"--arm") && is_word(3, b"--mount") && operands_given(5) {
+        return read_arguments(true, line);
+    }
+    write_help(STDERR_FILENO);
+    0
 }
 
 fn main() {

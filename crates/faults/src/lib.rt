@@ -4,10 +4,11 @@ ghost use Prim.Native.Nat.{_≤_};
 ghost use lib.ListN.{length};
 ghost use Rattle.paper.specs.Block.{blockBytes};
 ghost use Rattle.words.specs.Line.{on, _puts_};
-ghost use Rattle.faults.specs.Faults.{fault, numbered, labelled, unlike, reasons, told, endedOf, refusedOf};
+ghost use Rattle.faults.specs.Faults.{fault, another, labelled, unlike, elsewhere, shotElsewhere, reasons, told, endedOf, refusedOf};
 use block::BLOCK;
 use words::put;
 use words::put_figure;
+use words::put_figures;
 
 // The meanings of 8, 9 and 10, said of block i.
 fn put_fault(number: u32, i: usize, line: &mut [u8], at: usize) -> usize
@@ -17,7 +18,11 @@ fn put_fault(number: u32, i: usize, line: &mut [u8], at: usize) -> usize
         return put(b"damaged, a check is wrong (8)\n", line, at);
     }
     if number == 9 {
-        return put(b"no block of edition 1, a field is wrong (9)\n", line, at);
+        return put(
+            b"no block of edition 1 or 2, a field is wrong (9)\n",
+            line,
+            at,
+        );
     }
     if i == 0 {
         return put(b"not the start of the record asked for (10)\n", line, at);
@@ -25,16 +30,15 @@ fn put_fault(number: u32, i: usize, line: &mut [u8], at: usize) -> usize
     put(b"not the next block of this record (10)\n", line, at)
 }
 
-// Another number than its turn's.
-fn put_numbered(number: usize, i: usize, line: &mut [u8], at: usize) -> usize
-    ensures { λ r. ⌜ numbered number i (on (now (line .entry)) at) ≡ on (now (line .exit)) r ⌝ }
+// Another number than the one wanted.
+fn put_another(its: &[u8], found: u64, wanted: u64, line: &mut [u8], at: usize) -> usize
+    ensures { λ r. ⌜ another (now (its .entry)) found wanted (on (now (line .entry)) at) ≡ on (now (line .exit)) r ⌝ }
 {
-    if number == i {
+    if found == wanted {
         return at;
     }
-    let found = put_figure(b"    its number is ", number as u64, line, at);
-    let wanted = put_figure(b" and not ", i as u64, line, found);
-    put(b"\n", line, wanted)
+    let told = put_figures(its, found, b" and not ", wanted, line, at);
+    put(b"\n", line, told)
 }
 
 // Another label than the one expected: the desk may have to look for that cartridge.
@@ -51,11 +55,11 @@ fn put_labelled(found: &[u8], label: &[u8], line: &mut [u8], at: usize) -> usize
     put(b"\n", line, wanted)
 }
 
-// Another edition, side, levels or planes than block 0's.
-fn put_unlike(front: &[u8], first: &[u8], line: &mut [u8], at: usize) -> usize
-    ensures { λ r. ⌜ unlike (now (front .entry)) (now (first .entry)) (on (now (line .entry)) at) ≡ on (now (line .exit)) r ⌝ }
+// Another side, levels or planes than block 0's.
+fn put_unlike(form: &[u8], first: &[u8], line: &mut [u8], at: usize) -> usize
+    ensures { λ r. ⌜ unlike (now (form .entry)) (now (first .entry)) (on (now (line .entry)) at) ≡ on (now (line .exit)) r ⌝ }
 {
-    if fields::same_bytes(front, first) {
+    if fields::same_bytes(form, first) {
         return at;
     }
     put(
@@ -63,6 +67,32 @@ fn put_unlike(front: &[u8], first: &[u8], line: &mut [u8], at: usize) -> usize
         line,
         at,
     )
+}
+
+// Another arm or mount than block 0's: a shot of the same label, and not this one.
+fn put_elsewhere(first: &[u8], block: &[u8], line: &mut [u8], at: usize) -> usize
+    requires { ⌜ length (now first) ≡ blockBytes ⌝ }
+    requires { ⌜ length (now block) ≡ blockBytes ⌝ }
+    ensures { λ r. ⌜ elsewhere (now (first .entry)) (now (block .entry)) (on (now (line .entry)) at) ≡ on (now (line .exit)) r ⌝ }
+{
+    let arm = reader::arm_of(block) as u64;
+    let arm_wanted = reader::arm_of(first) as u64;
+    let armed = put_another(b"    its arm is ", arm, arm_wanted, line, at);
+    let mount = reader::mount_of(block) as u64;
+    let mount_wanted = reader::mount_of(first) as u64;
+    put_another(b"    its mount is ", mount, mount_wanted, line, armed)
+}
+
+// Not told where the editions differ: edition 1 has no arm that a person could look for.
+fn put_shot_elsewhere(first: &[u8], block: &[u8], line: &mut [u8], at: usize) -> usize
+    requires { ⌜ length (now first) ≡ blockBytes ⌝ }
+    requires { ⌜ length (now block) ≡ blockBytes ⌝ }
+    ensures { λ r. ⌜ shotElsewhere (now (first .entry)) (now (block .entry)) (on (now (line .entry)) at) ≡ on (now (line .exit)) r ⌝ }
+{
+    if block[0] != first[0] {
+        return at;
+    }
+    put_elsewhere(first, block, line, at)
 }
 
 // Each reason of 10 that applies.
@@ -78,9 +108,18 @@ fn put_reasons(
     requires { ⌜ length (now block) ≡ blockBytes ⌝ }
     ensures { λ r. ⌜ reasons (now (first .entry)) (now (label .entry)) i (now (block .entry)) (on (now (line .entry)) at) ≡ on (now (line .exit)) r ⌝ }
 {
-    let turn = put_numbered(fields::pair_at(block, 12), i, line, at);
+    let number = fields::pair_at(block, 12) as u64;
+    let turn = put_another(b"    its number is ", number, i as u64, line, at);
     let name = put_labelled(&block[4..12], label, line, turn);
-    put_unlike(&block[0..4], &first[0..4], line, name)
+    let edition = put_another(
+        b"    its edition is ",
+        block[0] as u64,
+        first[0] as u64,
+        line,
+        name,
+    );
+    let form = put_unlike(&block[1..4], &first[1..4], line, edition);
+    put_shot_elsewhere(first, block, line, form)
 }
 
 // What is wrong with block i of the blocks.

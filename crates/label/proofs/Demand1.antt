@@ -1,6 +1,6 @@
--- Demand 1. Every call is refused by the lowest row of the table that applies (a thumbnail by the first that is judged, since 13 is
--- judged before 3), and by 0 exactly where none does; a refused call answers 0 for all else and changes nothing lent. (That every
--- call ends is what the checker proves of every function.)
+-- Demand 1. Every call is refused by the lowest row of the table that applies (a thumbnail and the writer by the first that is
+-- judged, since 13 is judged before 3, and the edition's 9 before 6), and by 0 exactly where none does; a refused call answers 0 for
+-- all else and changes nothing lent. (That every call ends is what the checker proves of every function.)
 use mathlib.Core.Path.{_≡_, refl, ap}
 use mathlib.Core.Bool.{Bool, true, false, _&&_}
 use mathlib.Core.List.{List}
@@ -11,9 +11,9 @@ use lib.IntN.{ℤ}
 use lib.ListN.{length}
 use borrow.Author.Tests.{leb-true, eq-eqb}
 use Rattle.paper.specs.Sizes.{unless}
-use Rattle.paper.specs.Block.{blockBytes, isLabel, payloadBytes, payloadStart, checksRight, fieldsRight, blockRefusal}
+use Rattle.paper.specs.Block.{blockBytes, isLabel, Origin, checksRight, contentsRight, blockRefusal}
 use Rattle.paper.specs.Record.{wholeBlocks, blockAt, said, inTurn, turnRefusal}
-use Rattle.paper.specs.Jobs.{sizesRefusal, Forward, forwardRefusal, forwardJob, Coding, codingRefusal, codingJob, Decoding, decodingRefusal, decodingJob, Inverse, inverseRefusal, inverseJob, thumbnailRefusal, thumbnailJob, Writing, writingRefusal, writingJob, Read, readingRefusal, readingJob, checkJob}
+use Rattle.paper.specs.Jobs.{sizesRefusal, Forward, forwardRefusal, forwardJob, Coding, codingRefusal, codingJob, Decoding, decodingRefusal, decodingJob, Inverse, inverseRefusal, inverseJob, thumbnailRefusal, thumbnailJob, Writing, writingRefusal, writingJob, roomBytes, Read, lentRefusal, readingRefusal, readingJob, checkJob}
 use Rattle.record_laws.specs.Ended.{whole-block}
 use Rattle.label.specs.Table.{Lowest, First, leavesSomething, Refuses, forwardRows, codingRows, decodingRows, inverseRows, thumbnailRows, writingRows, readingRows, checkRows}
 use Rattle.label.proofs.Rows.{first, lowest, first-applies, judged-refuses}
@@ -53,16 +53,16 @@ unfolding thumbnailJob thumbnailRefusal sizesRefusal
 thumbnail-refuses k L r numbers picture room = judged-refuses _ _ _ _ _ (λ r l. refl) (λ r. refl) refl First _ refl (first-applies _ refl)
 
 -- ---- record writing
-pub writing-refuses : (k L n : ℕ) (label bytes : List ℕ) (b : ℕ) (room : List ℕ)
-    → Refuses Lowest (λ (a : Writing). a .refusal) (writingRows k L n label bytes b room) (writingJob k L n label bytes b room) (λ r. record { refusal = r; blocks = 0; room = room })
+pub writing-refuses : (k L n : ℕ) (o : Origin) (label bytes : List ℕ) (b : ℕ) (room : List ℕ)
+    → Refuses First (λ (a : Writing). a .refusal) (writingRows k L n o label bytes b room) (writingJob k L n o label bytes b room) (λ r. record { refusal = r; blocks = 0; room = room })
 unfolding writingJob writingRefusal sizesRefusal
-writing-refuses k L n label bytes b room = judged-refuses _ _ _ _ _ (λ r l. refl) (λ r. refl) refl Lowest _ refl (lowest 0 _ refl)
+writing-refuses k L n o label bytes b room = judged-refuses _ _ _ _ _ (λ r l. refl) (λ r. refl) refl First _ refl (first-applies _ refl)
 
 -- ---- record reading
 module _ (s label room : List ℕ) where
   reading-first : readingRefusal s label room ≡ first (readingRows s label room)
-  unfolding readingRefusal turnRefusal blockRefusal
-  reading-first = go (leb blockBytes (length s)) (leb (payloadBytes payloadStart * wholeBlocks s) (length room)) refl
+  unfolding readingRefusal lentRefusal turnRefusal blockRefusal
+  reading-first = go (leb blockBytes (length s)) (leb (roomBytes * wholeBlocks s) (length room)) refl
     where
       B : List ℕ
       B = blockAt s 0
@@ -74,13 +74,13 @@ module _ (s label room : List ℕ) where
       turn false c f t e = absurd (let z : _≡_ {A = ℕ} 0 1 = cc in omega arith)
 
       go : (a b : Bool) → leb blockBytes (length s) ≡ a
-          → unless 6 (a && b) (unless 7 (isLabel label) (unless (unless 6 (eqb (length B) blockBytes) (unless 8 (checksRight B) (unless 9 (fieldsRight payloadStart B) 0))) (eqb (unless 6 (eqb (length B) blockBytes) (unless 8 (checksRight B) (unless 9 (fieldsRight payloadStart B) 0))) 0) (unless 10 (inTurn (said B) label 0 B) 0)))
-          ≡ unless 6 (a && b) (unless 7 (isLabel label) (unless 8 (checksRight B) (unless 9 (fieldsRight payloadStart B) (unless 10 (inTurn (said B) label 0 B) 0))))
-      go true true e = ap (unless 7 (isLabel label)) (turn (eqb (length B) blockBytes) (checksRight B) (fieldsRight payloadStart B) (inTurn (said B) label 0 B) (eq-eqb (length B) blockBytes (whole-block s 0 (omega (arith, leb-true blockBytes (length s) e)))))
+          → unless 6 (a && b) (unless 7 (isLabel label) (unless (unless 6 (eqb (length B) blockBytes) (unless 8 (checksRight B) (unless 9 (contentsRight B) 0))) (eqb (unless 6 (eqb (length B) blockBytes) (unless 8 (checksRight B) (unless 9 (contentsRight B) 0))) 0) (unless 10 (inTurn (said B) label 0 B) 0)))
+          ≡ unless 6 (a && b) (unless 7 (isLabel label) (unless 8 (checksRight B) (unless 9 (contentsRight B) (unless 10 (inTurn (said B) label 0 B) 0))))
+      go true true e = ap (unless 7 (isLabel label)) (turn (eqb (length B) blockBytes) (checksRight B) (contentsRight B) (inTurn (said B) label 0 B) (eq-eqb (length B) blockBytes (whole-block s 0 (omega (arith, leb-true blockBytes (length s) e)))))
       go true false e = refl
       go false b e = refl
 
-  pub reading-refuses : Refuses Lowest (λ (a : Read). a .refusal) (readingRows s label room) (readingJob s label room) (λ r. record { refusal = r; k = 0; L = 0; n = 0; blocks = 0; bits = 0; ended = 0; room = room })
+  pub reading-refuses : Refuses Lowest (λ (a : Read). a .refusal) (readingRows s label room) (readingJob s label room) (λ r. record { refusal = r; k = 0; L = 0; n = 0; blocks = 0; bits = 0; ended = 0; edition = 0; arm = 0; mount = 0; room = room })
   unfolding readingJob
   reading-refuses = judged-refuses _ _ _ _ _ (λ r l. refl) (λ r. refl) refl Lowest _ reading-first (lowest 0 _ refl)
 

@@ -14,9 +14,9 @@ use Rattle.paper.specs.Sizes.{sizeIn, levelsIn, halvingsIn, planesIn}
 use Rattle.paper.specs.Square.{greysOf, pictured, lowGreysOf, thumbnailOf}
 use Rattle.paper.specs.Walk.{decodeOf, Settled}
 use Rattle.paper.specs.Bits.{bits, laid}
-use Rattle.paper.specs.Block.{blockBytes, payloadStart, payloadBytes}
+use Rattle.paper.specs.Block.{blockBytes, Origin, givenBack}
 use Rattle.paper.specs.Record.{blocksFor}
-use Rattle.paper.specs.Jobs.{Decoding, decodingRefusal, settledJob, decodingJob, Writing, writtenOf, Inverse}
+use Rattle.paper.specs.Jobs.{roomBytes, Decoding, decodingRefusal, settledJob, decodingJob, Writing, writtenOf, Inverse}
 use Rattle.sizes.proofs.Ranges.{levels-less}
 use Rattle.sizes.proofs.Refusals.{sizes-passed, done-is}
 use Rattle.bits.proofs.OneBit.{bits-length}
@@ -26,9 +26,9 @@ use Rattle.thumbnail.proofs.Refusals.{halvings-few}
 use Rattle.walk_laws.specs.Decoded.{all-bits}
 use Rattle.walk_laws.specs.Unfinished.{AllRead, planesRead, unfinished-true}
 use Rattle.record_laws.specs.BothJobs.{room-written}
-use Rattle.record_laws.specs.ReadBack.{bitsIn}
-use Rattle.label.specs.Journey.{intoRecord, Seen, outOfRecord, thumbnailOutOfRecord}
-use Rattle.label.proofs.Way.{written-all, accepted}
+use Rattle.record_laws.specs.ReadBack.{bitsIn, every-bit}
+use Rattle.label.specs.Journey.{intoRecord, Seen, originSeen, outOfRecord, thumbnailOutOfRecord}
+use Rattle.label.proofs.Way.{Known, written-all, accepted}
 use Rattle.label.proofs.Journeys.{Given, truth, n, code, truth-given, into-is, Opens, settled, rebuiltAs, out-is, thumbnail-out-is}
 
 -- ---- any bits at all
@@ -48,16 +48,17 @@ any-bits-unfinished k L n numbers bytes b s l e p h r a =
 
 -- ---- a whole record
 -- a picture, and room enough for all of its bits; whatever the lent places held
-pub record Enough (k L : ℕ) (label picture : List ℕ) (limit : ℕ) (numbers : List ℤ) (bytes room payload : List ℕ) (lent : List ℤ) : Type 0 where
+pub record Enough (o : Origin) (k L : ℕ) (label picture : List ℕ) (limit : ℕ) (numbers : List ℤ) (bytes room payload : List ℕ) (lent : List ℤ) : Type 0 where
+  pub from : Known o
   pub given : Given k L label picture
   pub limit-holds : length (code k L label picture given) ≤ limit
   pub numbers-hold : length numbers ≡ 4 ^ k
   pub bytes-hold : length (code k L label picture given) ≤ 8 * length bytes
-  pub room-holds : blockBytes * blocksFor (length (code k L label picture given)) ≤ length room
-  pub payload-holds : payloadBytes payloadStart * blocksFor (length (code k L label picture given)) ≤ length payload
+  pub room-holds : blockBytes * blocksFor (o .edition) (length (code k L label picture given)) ≤ length room
+  pub payload-holds : roomBytes * blocksFor (o .edition) (length (code k L label picture given)) ≤ length payload
   pub lent-holds : length lent ≡ 4 ^ k
 
-module _ (k L : ℕ) (label picture : List ℕ) (limit : ℕ) (numbers : List ℤ) (bytes room payload : List ℕ) (lent : List ℤ) (enough : Enough k L label picture limit numbers bytes room payload lent) where
+module _ (o : Origin) (k L : ℕ) (label picture : List ℕ) (limit : ℕ) (numbers : List ℤ) (bytes room payload : List ℕ) (lent : List ℤ) (enough : Enough o k L label picture limit numbers bytes room payload lent) where
   abbrev G : Given k L label picture
   G = enough .given
 
@@ -68,47 +69,49 @@ module _ (k L : ℕ) (label picture : List ℕ) (limit : ℕ) (numbers : List �
   C = code k L label picture G
 
   abbrev W : Writing
-  W = intoRecord k L label picture limit numbers bytes room
+  W = intoRecord k L o label picture limit numbers bytes room
 
   all-written : writtenOf k L T limit bytes ≡ C
   all-written = written-all k L T (truth-given k L label picture G) limit bytes (enough .limit-holds) (enough .bytes-hold)
 
-  fits : blockBytes * blocksFor (length (writtenOf k L T limit bytes)) ≤ length room
-  fits = omega (arith, ap (λ (l : List Bool). blocksFor (length l)) all-written, enough .room-holds)
+  fits : blockBytes * blocksFor (o .edition) (length (writtenOf k L T limit bytes)) ≤ length room
+  fits = omega (arith, ap (λ (l : List Bool). blocksFor (o .edition) (length l)) all-written, enough .room-holds)
 
   -- the record is written, and its blocks counted
-  pub whole-written : (W .refusal ≡ 0) × (W .blocks ≡ blocksFor (length C))
+  pub whole-written : (W .refusal ≡ 0) × (W .blocks ≡ blocksFor (o .edition) (length C))
   whole-written =
-      let e = into-is k L label picture G limit numbers (enough .numbers-hold) bytes room fits in
-      let w = room-written k L (n k L label picture G) label (laid (writtenOf k L T limit bytes) bytes) (length (writtenOf k L T limit bytes)) room (accepted k L T (truth-given k L label picture G) limit bytes label (G .labelled) room fits) in
-      (ap (λ (a : Writing). a .refusal) (e ∙ w), ap (λ (a : Writing). a .blocks) (e ∙ w) ∙ ap (λ (l : List Bool). blocksFor (length l)) all-written)
+      let e = into-is k L label picture G o (enough .from) limit numbers (enough .numbers-hold) bytes room fits in
+      let w = room-written k L (n k L label picture G) o label (laid (writtenOf k L T limit bytes) bytes) (length (writtenOf k L T limit bytes)) room (accepted k L T (truth-given k L label picture G) limit bytes o (enough .from) label (G .labelled) room fits) in
+      (ap (λ (a : Writing). a .refusal) (e ∙ w), ap (λ (a : Writing). a .blocks) (e ∙ w) ∙ ap (λ (l : List Bool). blocksFor (o .edition) (length l)) all-written)
 
   -- the whole record, as it lies in the room: it opens, and every number is settled
   abbrev pub whole : List ℕ
   whole = take (blockBytes * W .blocks) (W .room)
 
-  blocks-are : blocksFor (length (writtenOf k L T limit bytes)) ≡ blocksFor (length C)
-  blocks-are = ap (λ (l : List Bool). blocksFor (length l)) all-written
+  blocks-are : blocksFor (o .edition) (length (writtenOf k L T limit bytes)) ≡ blocksFor (o .edition) (length C)
+  blocks-are = ap (λ (l : List Bool). blocksFor (o .edition) (length l)) all-written
 
-  whole-opens : Opens (writtenOf k L T limit bytes) payload (blockBytes * W .blocks)
+  whole-opens : Opens (o .edition) (writtenOf k L T limit bytes) payload (blockBytes * W .blocks)
   whole-opens = record {
     some = omega (arith, whole-written .1);
     within = omega (arith, whole-written .1, blocks-are);
-    payload-fits = let m : blockBytes * W .blocks / blockBytes ≡ blocksFor (length C) = omega (arith, whole-written .1) in omega (arith, m, enough .payload-holds);
+    payload-fits = let m : blockBytes * W .blocks / blockBytes ≡ blocksFor (o .edition) (length C) = omega (arith, whole-written .1) in omega (arith, m, enough .payload-holds);
   }
 
-  all-settled : settled k L label picture G limit numbers (enough .numbers-hold) bytes room fits (blockBytes * W .blocks) payload whole-opens lent (enough .lent-holds) ≡ record { numbers = T; unfinished = 0; read = length C }
+  all-settled : settled k L label picture G o (enough .from) limit numbers (enough .numbers-hold) bytes room fits (blockBytes * W .blocks) payload whole-opens lent (enough .lent-holds) ≡ record { numbers = T; unfinished = 0; read = length C }
   all-settled =
-      let m : blockBytes * W .blocks / blockBytes ≡ blocksFor (length C) = omega (arith, whole-written .1) in
-      all-bits k L T (levels-less k L (G .levels)) (truth-given k L label picture G .square) (truth-given k L label picture G .small) (bitsIn (writtenOf k L T limit bytes) (blockBytes * W .blocks / blockBytes)) (omega (arith, m, ap length all-written))
+      let m : blockBytes * W .blocks / blockBytes ≡ blocksFor (o .edition) (length (writtenOf k L T limit bytes)) = omega (arith, whole-written .1, blocks-are) in
+      let all-left = ap (bitsIn (o .edition) (writtenOf k L T limit bytes)) m ∙ every-bit (o .edition) (writtenOf k L T limit bytes) in
+      all-bits k L T (levels-less k L (G .levels)) (truth-given k L label picture G .square) (truth-given k L label picture G .small) (bitsIn (o .edition) (writtenOf k L T limit bytes) (blockBytes * W .blocks / blockBytes)) (omega (arith, all-left, ap length all-written))
 
-  -- The whole record, read, decoded and inverted, is the very picture, with no plane unfinished.
+  -- The whole record, read, decoded and inverted, is the very picture, with no plane unfinished, and says where it was shot.
   pub very-picture : (shown : List ℕ) → length shown ≡ 4 ^ k → (greys : List ℤ) → length greys ≡ 4 ^ k → let S = outOfRecord label whole payload lent shown greys in
-      (S .read .refusal ≡ 0) × (S .decoded ≡ record { refusal = 0; unfinished = 0; read = length C; numbers = T }) × (S .rebuilt ≡ record { refusal = 0; picture = picture; room = greysOf k L T })
+      (S .read .refusal ≡ 0) × (originSeen S ≡ givenBack o) × (S .decoded ≡ record { refusal = 0; unfinished = 0; read = length C; numbers = T }) × (S .rebuilt ≡ record { refusal = 0; picture = picture; room = greysOf k L T })
   very-picture shown e greys f =
-      let out = out-is k L label picture G limit numbers (enough .numbers-hold) bytes room fits (blockBytes * W .blocks) payload whole-opens lent (enough .lent-holds) shown e greys f in
+      let out = out-is k L label picture G o (enough .from) limit numbers (enough .numbers-hold) bytes room fits (blockBytes * W .blocks) payload whole-opens lent (enough .lent-holds) shown e greys f in
       let back : pictured k (greysOf k L T) ≡ picture = lossless L k picture (omega (arith, levels-less k L (G .levels))) (G .square) (G .greys) in (
         ap (λ (s : Seen). s .read .refusal) out,
+        ap originSeen out,
         ap (λ (s : Seen). s .decoded) out ∙ ap settledJob all-settled,
         ap (λ (s : Seen). s .rebuilt) out ∙ ap {B = Inverse} (λ (s : Settled). rebuiltAs k (greysOf k L (s .numbers))) all-settled
             ∙ ap {B = Inverse} (λ (g : List ℕ). record { refusal = 0; picture = g; room = greysOf k L T }) back,
@@ -118,6 +121,6 @@ module _ (k L : ℕ) (label picture : List ℕ) (limit : ℕ) (numbers : List �
   pub very-thumbnail : (r : ℕ) → halvingsIn L r ≡ true → (shown : List ℕ) → length shown ≡ 4 ^ (k - r) → (greys : List ℤ) → length greys ≡ 4 ^ (k - r)
       → thumbnailOutOfRecord r label whole payload lent shown greys .rebuilt ≡ record { refusal = 0; picture = pictured (k - r) (lowGreysOf k r picture); room = lowGreysOf k r picture }
   very-thumbnail r halves shown e greys f =
-      ap (λ (s : Seen). s .rebuilt) (thumbnail-out-is k L label picture G limit numbers (enough .numbers-hold) bytes room fits (blockBytes * W .blocks) payload whole-opens lent (enough .lent-holds) r halves shown e greys f)
+      ap (λ (s : Seen). s .rebuilt) (thumbnail-out-is k L label picture G o (enough .from) limit numbers (enough .numbers-hold) bytes room fits (blockBytes * W .blocks) payload whole-opens lent (enough .lent-holds) r halves shown e greys f)
       ∙ ap {B = Inverse} (λ (s : Settled). rebuiltAs (k - r) (thumbnailOf k L r (s .numbers))) all-settled
       ∙ ap {B = Inverse} (rebuiltAs (k - r)) (thumbnail-whole r L k picture (halvings-few L r halves) (omega (arith, levels-less k L (G .levels))))

@@ -4,6 +4,7 @@
 use mathlib.Core.Path.{_≡_, ap}
 use mathlib.Core.List.{List}
 use Prim.Native.Nat.{ℕ, zero, suc, _+_, _*_, _-_, _/_, _^_, _<_, _≤_}
+use native.Mathlib.Nat.{mul-le-mul-left}
 use native.Mathlib.Omega.{arith}
 use lib.IntN.{ℤ, pos, negsuc, natAbs, _-ℤ_}
 use lib.ListN.{length, take, getD}
@@ -12,7 +13,7 @@ use Rattle.paper.specs.Lists.{at}
 use Rattle.paper.specs.Places.{zOf}
 use Rattle.paper.specs.Square.{grey, greysOf, pictured}
 use Rattle.paper.specs.Walk.{Settled}
-use Rattle.paper.specs.Block.{blockBytes}
+use Rattle.paper.specs.Block.{blockBytes, Origin, givenBack, startOf, payloadBits}
 use Rattle.paper.specs.Record.{blocksFor}
 use Rattle.paper.specs.Jobs.{writtenOf}
 use Rattle.sizes.proofs.Ranges.{levels-less}
@@ -24,7 +25,8 @@ use Rattle.square_laws.specs.Picture.{lossless, picture-near}
 use Rattle.walk_laws.specs.Decoded.{Truthful, decodedFirst, decoded-truthful, decoded-never-worse}
 use Rattle.walk_laws.specs.Read.{decoded-length}
 use Rattle.record_laws.specs.ReadBack.{bitsIn}
-use Rattle.label.specs.Journey.{intoRecord, Seen, outOfRecord}
+use Rattle.label.specs.Journey.{intoRecord, Seen, originSeen, outOfRecord}
+use Rattle.label.proofs.Way.{Known}
 use Rattle.label.proofs.Journeys as way
 use Rattle.label.proofs.Journeys.{Given, truth-given, rebuiltAs, seenAs, Opens, out-is}
 
@@ -102,26 +104,26 @@ module _ (k L : ℕ) (label picture : List ℕ) (given : Given k L label picture
   grey-limit-told b place h = off-told L ((first b) .unfinished) _ _ (pictured-most k (greysOf k L ((first b) .numbers)) place h) (omega (arith, given .greys place)) (grey-limit b place h)
 
   -- ---- any record of it, cut anywhere that still opens
-  module _ (limit : ℕ) (numbers : List ℤ) (numbers-fit : length numbers ≡ 4 ^ k) (bytes room : List ℕ) (room-fits : blockBytes * blocksFor (length (writtenOf k L true-numbers limit bytes)) ≤ length room)
+  module _ (o : Origin) (from : Known o) (limit : ℕ) (numbers : List ℤ) (numbers-fit : length numbers ≡ 4 ^ k) (bytes room : List ℕ) (room-fits : blockBytes * blocksFor (o .edition) (length (writtenOf k L true-numbers limit bytes)) ≤ length room)
       (payload : List ℕ) (lent : List ℤ) (lent-fits : length lent ≡ 4 ^ k) (shown : List ℕ) (shown-fits : length shown ≡ 4 ^ k) (greys : List ℤ) (greys-fit : length greys ≡ 4 ^ k) where
     -- what is seen of the record's first m bytes, and the bits that are left in them
     abbrev pub seen : ℕ → Seen
-    seen m = outOfRecord label (take m ((intoRecord k L label picture limit numbers bytes room) .room)) payload lent shown greys
+    seen m = outOfRecord label (take m ((intoRecord k L o label picture limit numbers bytes room) .room)) payload lent shown greys
 
     abbrev pub left : ℕ → ℕ
-    left m = bitsIn (writtenOf k L true-numbers limit bytes) (m / blockBytes)
+    left m = bitsIn (o .edition) (writtenOf k L true-numbers limit bytes) (m / blockBytes)
 
     -- a cut that still opens
     abbrev pub Open : ℕ → Type 0
-    Open m = Opens (writtenOf k L true-numbers limit bytes) payload m
+    Open m = Opens (o .edition) (writtenOf k L true-numbers limit bytes) payload m
 
     module _ (m : ℕ) (opens : Open m) where
-      seen-is : seen m ≡ seenAs k L (way.n k L label picture given) (writtenOf k L true-numbers limit bytes) payload (m / blockBytes) (first (left m)) (rebuiltAs k (greysOf k L ((first (left m)) .numbers)))
-      seen-is = out-is k L label picture given limit numbers numbers-fit bytes room room-fits m payload opens lent lent-fits shown shown-fits greys greys-fit
+      seen-is : seen m ≡ seenAs o k L (way.n k L label picture given) (writtenOf k L true-numbers limit bytes) payload (m / blockBytes) (first (left m)) (rebuiltAs k (greysOf k L ((first (left m)) .numbers)))
+      seen-is = out-is k L label picture given o from limit numbers numbers-fit bytes room room-fits m payload opens lent lent-fits shown shown-fits greys greys-fit
 
-      -- It opens, and what is decoded and shown is what its bits settle.
-      pub cut-opens : (seen m .read .refusal ≡ 0) × (seen m .decoded .refusal ≡ 0) × (seen m .rebuilt .refusal ≡ 0)
-      cut-opens = (ap (λ (s : Seen). s .read .refusal) seen-is, ap (λ (s : Seen). s .decoded .refusal) seen-is, ap (λ (s : Seen). s .rebuilt .refusal) seen-is)
+      -- It opens, and says where it was shot; what is decoded and shown is what its bits settle.
+      pub cut-opens : (seen m .read .refusal ≡ 0) × (seen m .decoded .refusal ≡ 0) × (seen m .rebuilt .refusal ≡ 0) × (originSeen (seen m) ≡ givenBack o)
+      cut-opens = (ap (λ (s : Seen). s .read .refusal) seen-is, ap (λ (s : Seen). s .decoded .refusal) seen-is, ap (λ (s : Seen). s .rebuilt .refusal) seen-is, ap originSeen seen-is)
 
       pub cut-unfinished : seen m .decoded .unfinished ≡ (first (left m)) .unfinished
       cut-unfinished = ap (λ (s : Seen). s .decoded .unfinished) seen-is
@@ -148,4 +150,6 @@ module _ (k L : ℕ) (label picture : List ℕ) (given : Given k L label picture
     -- A longer part of the record never moves a number away from the truth.
     pub cut-never-away : (m l : ℕ) → Open m → Open l → m ≤ l → (i : ℕ)
         → natAbs (at true-numbers i -ℤ at (seen l .decoded .numbers) i) ≤ natAbs (at true-numbers i -ℤ at (seen m .decoded .numbers) i)
-    cut-never-away m l o q h i = rw (cut-numbers m o, cut-numbers l q) (never-away (left m) (left l) i (omega arith))
+    cut-never-away m l p q h i =
+        let more = mul-le-mul-left {m = m / blockBytes} {n = l / blockBytes} (payloadBits (startOf (o .edition))) (omega arith) in
+        rw (cut-numbers m p, cut-numbers l q) (never-away (left m) (left l) i (omega arith))

@@ -13,9 +13,9 @@ use Rattle.paper.specs.Lists.{Bytes}
 use Rattle.paper.specs.Square.{numbersOf, greysOf, pictured, thumbnailOf}
 use Rattle.paper.specs.Walk.{planeCount, codeOf, decodeOf, Settled}
 use Rattle.paper.specs.Bits.{laid}
-use Rattle.paper.specs.Block.{blockBytes, payloadStart, payloadBytes, isLabel}
+use Rattle.paper.specs.Block.{blockBytes, Origin, isLabel}
 use Rattle.paper.specs.Record.{blocksFor}
-use Rattle.paper.specs.Jobs.{Forward, forwardRefusal, forwardJob, Coding, codingJob, writtenOf, Decoding, settledJob, decodingJob, Inverse, inverseRefusal, inverseJob, thumbnailRefusal, thumbnailJob, Writing, writingJob, Read, readingJob}
+use Rattle.paper.specs.Jobs.{roomBytes, Forward, forwardRefusal, forwardJob, Coding, codingJob, writtenOf, Decoding, settledJob, decodingJob, Inverse, inverseRefusal, inverseJob, thumbnailRefusal, thumbnailJob, Writing, writingJob, Read, readingJob}
 use Rattle.sizes.proofs.Ranges.{levels-few, levels-less, planes-few}
 use Rattle.sizes.proofs.Refusals.{sizes-passed, done-is}
 use Rattle.sizes.proofs.Numbers.{count-in}
@@ -25,21 +25,22 @@ use Rattle.record_laws.specs.ReadBack.{bitsIn, readBack}
 use Rattle.walk_laws.specs.Read.{decoded-length}
 use Rattle.walk_laws.specs.Room.{decoded-in}
 use Rattle.label.specs.Journey.{intoRecord, Seen, seenBy, outOfRecord, thumbnailOutOfRecord}
-use Rattle.label.proofs.Way.{Numbers, coded, read, decoded}
+use Rattle.label.proofs.Way.{Numbers, Known, coded, read, decoded}
 
 -- greys made a picture of side 2 ^ k
 abbrev pub rebuiltAs : ℕ → List ℤ → Inverse
 rebuiltAs k greys = record { refusal = 0; picture = pictured k greys; room = greys }
 
 -- what is seen of the first j blocks of the record of l, where its bits settle s
-abbrev pub seenAs : ℕ → ℕ → ℕ → List Bool → List ℕ → ℕ → Settled → Inverse → Seen
-seenAs k L n l payload j s rebuilt = record { read = readBack k L n l payload j; decoded = settledJob s; rebuilt = rebuilt }
+abbrev pub seenAs : Origin → ℕ → ℕ → ℕ → List Bool → List ℕ → ℕ → Settled → Inverse → Seen
+seenAs o k L n l payload j s rebuilt = record { read = readBack o k L n l payload j; decoded = settledJob s; rebuilt = rebuilt }
 
--- the first m bytes of the record of l still open: one whole block at least; and there is room for the payload of its whole blocks
-pub record Opens (l : List Bool) (payload : List ℕ) (m : ℕ) : Type 0 where
+-- the first m bytes of the record of l, in edition e, still open: one whole block at least; and there is room for the payload of
+-- its whole blocks
+pub record Opens (e : ℕ) (l : List Bool) (payload : List ℕ) (m : ℕ) : Type 0 where
   pub some : blockBytes ≤ m
-  pub within : m ≤ blockBytes * blocksFor (length l)
-  pub payload-fits : payloadBytes payloadStart * (m / blockBytes) ≤ length payload
+  pub within : m ≤ blockBytes * blocksFor e (length l)
+  pub payload-fits : roomBytes * (m / blockBytes) ≤ length payload
 
 -- a picture of S² greys, sizes in their range, a label
 pub record Given (k L : ℕ) (label picture : List ℕ) : Type 0 where
@@ -72,41 +73,41 @@ module _ (k L : ℕ) (label picture : List ℕ) (given : Given k L label picture
   unfolding forwardJob forwardRefusal
   forwarded numbers e = done-is _ _ _ (sizes-passed k L _ (given .size) (given .levels) ∙ rw (eq-eqb (length picture) (4 ^ k) (given .square), eq-eqb (length numbers) (4 ^ k) e))
 
-  module _ (limit : ℕ) (numbers : List ℤ) (numbers-fit : length numbers ≡ 4 ^ k) (bytes room : List ℕ) (room-fits : blockBytes * blocksFor (length (writtenOf k L truth limit bytes)) ≤ length room) where
+  module _ (o : Origin) (from : Known o) (limit : ℕ) (numbers : List ℤ) (numbers-fit : length numbers ≡ 4 ^ k) (bytes room : List ℕ) (room-fits : blockBytes * blocksFor (o .edition) (length (writtenOf k L truth limit bytes)) ≤ length room) where
     -- the bits in the record
     abbrev pub recorded : List Bool
     recorded = writtenOf k L truth limit bytes
 
-    pub into-is : intoRecord k L label picture limit numbers bytes room ≡ writingJob k L n label (laid recorded bytes) (length recorded) room
+    pub into-is : intoRecord k L o label picture limit numbers bytes room ≡ writingJob k L n o label (laid recorded bytes) (length recorded) room
     unfolding intoRecord
     into-is =
-        ap (λ (f : Forward). let c = codingJob k L (f .numbers) limit bytes in writingJob k L (c .n) label (c .bytes) (c .written) room) (forwarded numbers numbers-fit)
-        ∙ ap (λ (c : Coding). writingJob k L (c .n) label (c .bytes) (c .written) room) (coded k L truth truth-given limit bytes)
+        ap (λ (f : Forward). let c = codingJob k L (f .numbers) limit bytes in writingJob k L (c .n) o label (c .bytes) (c .written) room) (forwarded numbers numbers-fit)
+        ∙ ap (λ (c : Coding). writingJob k L (c .n) o label (c .bytes) (c .written) room) (coded k L truth truth-given limit bytes)
 
     -- ---- out of its first m bytes
-    module _ (m : ℕ) (payload : List ℕ) (opens : Opens recorded payload m) (lent : List ℤ) (lent-fits : length lent ≡ 4 ^ k) where
+    module _ (m : ℕ) (payload : List ℕ) (opens : Opens (o .edition) recorded payload m) (lent : List ℤ) (lent-fits : length lent ≡ 4 ^ k) where
       -- the bits that are left, and what they settle
       abbrev pub left : ℕ
-      left = bitsIn recorded (m / blockBytes)
+      left = bitsIn (o .edition) recorded (m / blockBytes)
 
       abbrev pub settled : Settled
       settled = decodeOf k L n (take left code)
 
       -- whatever job makes greys of it
-      by-is : (rebuilds : ℕ → ℕ → List ℤ → Inverse) → seenBy rebuilds label (take m ((intoRecord k L label picture limit numbers bytes room) .room)) payload lent
-          ≡ seenAs k L n recorded payload (m / blockBytes) settled (rebuilds k L (settled .numbers))
+      by-is : (rebuilds : ℕ → ℕ → List ℤ → Inverse) → seenBy rebuilds label (take m ((intoRecord k L o label picture limit numbers bytes room) .room)) payload lent
+          ≡ seenAs o k L n recorded payload (m / blockBytes) settled (rebuilds k L (settled .numbers))
       by-is rebuilds =
           ap (λ (r : Read). let d = decodingJob (r .k) (r .L) (r .n) lent (r .room) (r .bits) in record { read = r; decoded = d; rebuilt = rebuilds (r .k) (r .L) (d .numbers) })
-          (ap (λ (w : Writing). readingJob (take m (w .room)) label payload) into-is ∙ read k L truth truth-given limit bytes label (given .labelled) room room-fits m (opens .some) (opens .within) payload (opens .payload-fits))
-          ∙ ap (λ (d : Decoding). record { read = readBack k L n recorded payload (m / blockBytes); decoded = d; rebuilt = rebuilds k L (d .numbers) })
-          (decoded k L truth truth-given limit bytes label (given .labelled) room room-fits m (opens .some) (opens .within) payload (opens .payload-fits) lent lent-fits)
+          (ap (λ (w : Writing). readingJob (take m (w .room)) label payload) into-is ∙ read k L truth truth-given limit bytes o from label (given .labelled) room room-fits m (opens .some) (opens .within) payload (opens .payload-fits))
+          ∙ ap (λ (d : Decoding). record { read = readBack o k L n recorded payload (m / blockBytes); decoded = d; rebuilt = rebuilds k L (d .numbers) })
+          (decoded k L truth truth-given limit bytes o from label (given .labelled) room room-fits m (opens .some) (opens .within) payload (opens .payload-fits) lent lent-fits)
 
       -- the picture
       pub out-is : (shown : List ℕ) → length shown ≡ 4 ^ k → (greys : List ℤ) → length greys ≡ 4 ^ k
-          → outOfRecord label (take m ((intoRecord k L label picture limit numbers bytes room) .room)) payload lent shown greys
-          ≡ seenAs k L n recorded payload (m / blockBytes) settled (rebuiltAs k (greysOf k L (settled .numbers)))
+          → outOfRecord label (take m ((intoRecord k L o label picture limit numbers bytes room) .room)) payload lent shown greys
+          ≡ seenAs o k L n recorded payload (m / blockBytes) settled (rebuiltAs k (greysOf k L (settled .numbers)))
       unfolding outOfRecord inverseJob inverseRefusal
-      out-is shown e greys f = by-is (λ k L decoded. inverseJob k L decoded shown greys) ∙ ap {B = Seen} (seenAs k L n recorded payload (m / blockBytes) settled) (done-is _ _ _ (sizes-passed k L _ (given .size) (given .levels) ∙ rw (
+      out-is shown e greys f = by-is (λ k L decoded. inverseJob k L decoded shown greys) ∙ ap {B = Seen} (seenAs o k L n recorded payload (m / blockBytes) settled) (done-is _ _ _ (sizes-passed k L _ (given .size) (given .levels) ∙ rw (
         eq-eqb (length (settled .numbers)) (4 ^ k) (decoded-length k L n (take left code)),
         eq-eqb (length shown) (4 ^ k) e,
         eq-eqb (length greys) (4 ^ k) f,
@@ -115,10 +116,10 @@ module _ (k L : ℕ) (label picture : List ℕ) (given : Given k L label picture
 
       -- a thumbnail
       pub thumbnail-out-is : (r : ℕ) → halvingsIn L r ≡ true → (shown : List ℕ) → length shown ≡ 4 ^ (k - r) → (greys : List ℤ) → length greys ≡ 4 ^ (k - r)
-          → thumbnailOutOfRecord r label (take m ((intoRecord k L label picture limit numbers bytes room) .room)) payload lent shown greys
-          ≡ seenAs k L n recorded payload (m / blockBytes) settled (rebuiltAs (k - r) (thumbnailOf k L r (settled .numbers)))
+          → thumbnailOutOfRecord r label (take m ((intoRecord k L o label picture limit numbers bytes room) .room)) payload lent shown greys
+          ≡ seenAs o k L n recorded payload (m / blockBytes) settled (rebuiltAs (k - r) (thumbnailOf k L r (settled .numbers)))
       unfolding thumbnailOutOfRecord thumbnailJob thumbnailRefusal
-      thumbnail-out-is r halves shown e greys f = by-is (λ k L decoded. thumbnailJob k L r decoded shown greys) ∙ ap {B = Seen} (seenAs k L n recorded payload (m / blockBytes) settled) (done-is _ _ _ (sizes-passed k L _ (given .size) (given .levels) ∙ rw (
+      thumbnail-out-is r halves shown e greys f = by-is (λ k L decoded. thumbnailJob k L r decoded shown greys) ∙ ap {B = Seen} (seenAs o k L n recorded payload (m / blockBytes) settled) (done-is _ _ _ (sizes-passed k L _ (given .size) (given .levels) ∙ rw (
         halves,
         eq-eqb (length (settled .numbers)) (4 ^ k) (decoded-length k L n (take left code)),
         eq-eqb (length shown) (4 ^ (k - r)) e,

@@ -8,6 +8,7 @@ use native.Mathlib.Omega.{arith}
 use lib.Dec.{ltb}
 use borrow.Author.Tests.{ltb-true}
 use Rattle.sizes.proofs.Ranges.{both-first, both-second}
+use Rattle.sizes.proofs.Refusals.{refusal-is}
 use Rattle.paper.specs.Sizes.{unless, judged}
 use Rattle.label.specs.Table.{Row, Lowest, First, leavesSomething, Refuses}
 
@@ -84,8 +85,7 @@ first-applies (v ∷ rows) h = go (v .holds) refl (first-applies rows (both-seco
 -- where the number is one that does
 module _ {A : Type 0} (refusalOf : A → ℕ) (rows : List Row) (left refused : ℕ → A) (done : A) (kept : (r : ℕ) → leavesSomething r ≡ false → left r ≡ refused r) (says : (r : ℕ) → refusalOf (left r) ≡ r) (fine : refusalOf done ≡ 0) where
   answered : (r : ℕ) → refusalOf (judged r left done) ≡ r
-  answered zero = fine
-  answered (suc r) = says (suc r)
+  answered r = refusal-is refusalOf r left done says fine
 
   unchanged : (r : ℕ) → 0 < r → leavesSomething r ≡ false → judged r left done ≡ refused r
   unchanged zero h l = absurd (omega arith)

@@ -132,10 +132,13 @@ thumbnail-settled κs = one-outcome (thumbnail-contract.Post κs) (thumbnail-job
 
 -- ---- write: the count of blocks, and the room
 abbrev pub write-job : (κs : Lfts 3) → ArgsD write-fn.signature κs → Writing
-write-job κs a = writingJob (a .0) (a .1 .0) (a .1 .1 .0) (now (a .1 .1 .1 .0)) (now (a .1 .1 .1 .1 .0)) (a .1 .1 .1 .1 .1 .0) (now (a .1 .1 .1 .1 .1 .1 .0))
+write-job κs a =
+    let o = a .1 .1 .1 in
+    let lent = o .1 .1 .1 in
+    writingJob (a .0) (a .1 .0) (a .1 .1 .0) (record { edition = o .0; arm = o .1 .0; mount = o .1 .1 .0 }) (now (lent .0)) (now (lent .1 .0)) (lent .1 .1 .0) (now (lent .1 .1 .1 .0))
 
 abbrev pub write-outcome : (κs : Lfts 3) → ResD write-fn.signature κs → AtExit (endedOf 3 write-kinds.ps write-kinds.r) κs → Writing
-write-outcome κs r s = record { refusal = r .refusal; blocks = r .blocks; room = now (s .1 .1 .1 .1 .1 .1 .0) }
+write-outcome κs r s = record { refusal = r .refusal; blocks = r .blocks; room = now (s .1 .1 .1 .1 .1 .1 .1 .1 .1 .0) }
 
 pub write-takes : (κs : Lfts 3) → Takes (write-contract.Pre κs)
 write-takes κs a = tt
@@ -151,7 +154,7 @@ abbrev pub read-job : (κs : Lfts 3) → ArgsD read-fn.signature κs → Read
 read-job κs a = readingJob (now (a .0)) (now (a .1 .0)) (now (a .1 .1 .0))
 
 abbrev pub read-outcome : (κs : Lfts 3) → ResD read-fn.signature κs → AtExit (endedOf 3 read-kinds.ps read-kinds.r) κs → Read
-read-outcome κs r s = record { refusal = r .refusal; k = r .k; L = r .levels; n = r .n; blocks = r .blocks; bits = r .bits; ended = r .ended; room = now (s .1 .1 .0) }
+read-outcome κs r s = record { refusal = r .refusal; k = r .k; L = r .levels; n = r .n; blocks = r .blocks; bits = r .bits; ended = r .ended; edition = r .edition; arm = r .arm; mount = r .mount; room = now (s .1 .1 .0) }
 
 pub read-takes : (κs : Lfts 3) → Takes (read-contract.Pre κs)
 read-takes κs a = tt

@@ -1,22 +1,22 @@
 -- Shams kept out: each program that the paper names as a sham has an outcome that its contract refutes.
-use mathlib.Core.Path.{_≡_, refl, sym, ap, _∙_}
-use mathlib.Core.Bool.{Bool, true, false}
-use mathlib.Core.List.{List, [], _∷_, _++_}
-use Prim.Native.Nat.{ℕ, zero, suc, _+_, _*_, _<_}
+use mathlib.Core.Path.{_≡_, sym, ap, _∙_}
+use mathlib.Core.Bool.{true}
+use mathlib.Core.List.{List, _++_}
+use Prim.Native.Nat.{ℕ, _+_, _*_, _<_}
 use native.Mathlib.Omega.{arith}
-use lib.ListN.{length, take, replicate, getD}
-use lib.IntN.{ℤ, pos, negsuc, natAbs}
-use Rattle.paper.specs.Sizes.{sizeIn, levelsIn, planesIn, numbersIn, mostBits}
+use lib.ListN.{replicate, getD}
+use lib.IntN.{ℤ, pos, natAbs}
+use Rattle.paper.specs.Sizes.{sizeIn, levelsIn, planesIn, numbersIn}
 use Rattle.paper.specs.Lists.{made, joined}
 use Rattle.paper.specs.Line.{oddOf, evenOf, evenAt, oddAt, woven, lineBack}
 use Rattle.paper.specs.Places.{interleaved, columnOf, rowOf, zOf, rasterOf}
 use Rattle.paper.specs.Square.{placeOf, lineOf, spotOf, line, along, levelBack, onFirst, levelsBack, raised, grey, pictured, greysOf}
 use Rattle.paper.specs.Walk.{bitOf}
-use Rattle.paper.specs.Bits.{bits, byteOf, packed, laid, allZero}
-use Rattle.paper.specs.Block.{payloadStart, payloadBytes, payloadBits, labelCharacter, labelCharacters, isLabel, sameBytes, plainSum, weighedSum, header, sealed, payloadOf, checksRight, fieldsRight, blockRefusal}
-use Rattle.paper.specs.Record.{blockOf, recordOf, inTurn, turnRefusal, runFrom, bitsKept, payloadKept}
-use Rattle.paper.specs.Jobs.{sizesRefusal, Forward, forwardJob, Decoding, decodingJob, Inverse, inverseRefusal, inverseJob, Read, readingRefusal, readingJob}
-use Rattle.paper.specs.Cases.{checked, last, zeros, cut, label417}
+use Rattle.paper.specs.Bits.{bits, byteOf, packed, allZero}
+use Rattle.paper.specs.Block.{headerBytes, payloadBits, labelCharacter, labelCharacters, isLabel, sameBytes, plainSum, weighedSum, editionIn, startOf, header, named, sealed, namedOf, payloadOf, checksRight, originRight, fieldsRight, blockRefusal}
+use Rattle.paper.specs.Record.{madeBlock, blockOf, recordOf, said, inTurn, turnRefusal, runFrom, bitsKept, payloadKept}
+use Rattle.paper.specs.Jobs.{sizesRefusal, Forward, forwardJob, Decoding, inverseRefusal, inverseJob, roomBytes, Read, lentRefusal, readingRefusal, readingJob}
+use Rattle.paper.specs.Cases.{checked, last, zeros, cut, label417, edition1}
 
 -- one that refuses everything: P9's call is not refused
 pub refuses-everything : (r n : ℕ) (numbers : List ℤ) → 0 < r → forwardJob 3 2 (replicate 64 128) last ≡ record { refusal = r; n = n; numbers = numbers } → ⊥
@@ -44,12 +44,12 @@ always-0 contract = let z : _≡_ {A = ℕ} 2 0 = sym (ap (λ (a : Decoding). a 
 -- a reader that uses block 0 and only nods at the others: a record of a full block and 8 bits more has a byte in its second block, so the count,
 -- the bits and the payload of block 0 alone are each refuted
 abbrev two : List ℕ
-two = recordOf payloadStart [] 5 2 3 label417 (replicate (payloadBits payloadStart + 8) true)
+two = recordOf edition1 5 2 3 label417 (replicate (payloadBits headerBytes + 8) true)
 
-pub only-block-0 : (a : Read) → readingJob two label417 (replicate (2 * payloadBytes payloadStart) 0) ≡ a → (a .blocks ≡ 1 → ⊥) × (a .bits ≡ payloadBits payloadStart → ⊥) × (getD (a .room) (payloadBytes payloadStart) 0 ≡ 0 → ⊥)
-unfolding sizeIn levelsIn planesIn joined bitOf bits byteOf packed allZero labelCharacter labelCharacters isLabel sameBytes plainSum weighedSum header sealed payloadOf checksRight fieldsRight blockRefusal blockOf recordOf inTurn turnRefusal runFrom bitsKept payloadKept readingRefusal readingJob
+pub only-block-0 : (a : Read) → readingJob two label417 (replicate (2 * roomBytes) 0) ≡ a → (a .blocks ≡ 1 → ⊥) × (a .bits ≡ payloadBits headerBytes → ⊥) × (getD (a .room) (roomBytes) 0 ≡ 0 → ⊥)
+unfolding sizeIn levelsIn planesIn joined bitOf bits byteOf packed allZero labelCharacter labelCharacters isLabel sameBytes plainSum weighedSum editionIn startOf header named sealed namedOf payloadOf checksRight originRight fieldsRight blockRefusal madeBlock blockOf recordOf said inTurn turnRefusal runFrom bitsKept payloadKept lentRefusal readingRefusal readingJob
 only-block-0 a contract = (
   λ h. let z : _≡_ {A = ℕ} 2 1 = ap (λ (a : Read). a .blocks) contract ∙ h in omega arith,
-  λ h. let z : _≡_ {A = ℕ} (payloadBits payloadStart + 8) (payloadBits payloadStart) = ap (λ (a : Read). a .bits) contract ∙ h in omega arith,
-  λ h. let z : _≡_ {A = ℕ} 255 0 = ap (λ (a : Read). getD (a .room) (payloadBytes payloadStart) 0) contract ∙ h in omega arith,
+  λ h. let z : _≡_ {A = ℕ} (payloadBits headerBytes + 8) (payloadBits headerBytes) = ap (λ (a : Read). a .bits) contract ∙ h in omega arith,
+  λ h. let z : _≡_ {A = ℕ} 255 0 = ap (λ (a : Read). getD (a .room) (roomBytes) 0) contract ∙ h in omega arith,
 )

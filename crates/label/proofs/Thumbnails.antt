@@ -10,7 +10,7 @@ use lib.IntN.{ℤ}
 use lib.ListN.{length, take, getD}
 use Rattle.paper.specs.Sizes.{halvingsIn, greyLimit, judged}
 use Rattle.paper.specs.Square.{raised, pictured, lowGreysOf, thumbnailOf}
-use Rattle.paper.specs.Block.{blockBytes}
+use Rattle.paper.specs.Block.{blockBytes, Origin, givenBack}
 use Rattle.paper.specs.Record.{blocksFor}
 use Rattle.paper.specs.Jobs.{Inverse, thumbnailRefusal, thumbnailJob, writtenOf}
 use Rattle.sizes.proofs.Ranges.{levels-less}
@@ -18,7 +18,8 @@ use Rattle.square_laws.specs.Thumbnail.{thumbnail-whole, thumbnail-smallest, th
 use Rattle.thumbnail.proofs.Refusals.{halvings-few}
 use Rattle.walk_laws.specs.Read.{decoded-length}
 use Rattle.record_laws.specs.ReadBack.{bitsIn}
-use Rattle.label.specs.Journey.{intoRecord, Seen, thumbnailOutOfRecord}
+use Rattle.label.specs.Journey.{intoRecord, Seen, originSeen, thumbnailOutOfRecord}
+use Rattle.label.proofs.Way.{Known}
 use Rattle.label.proofs.Journeys as way
 use Rattle.label.proofs.Journeys.{Given, truth-given, rebuiltAs, seenAs, Opens, thumbnail-out-is}
 use Rattle.label.proofs.Demand3.{true-numbers, first, numbers-truthful, truthful-off, pictured-most, off-told}
@@ -67,25 +68,25 @@ module _ (k L : ℕ) (label picture : List ℕ) (given : Given k L label picture
   thumbnail-limit-told b place h = off-told (L - r) (unfinished b) _ _ (pictured-most (k - r) _ place h) (pictured-most (k - r) (lowGreysOf k r picture) place h) (thumbnail-limit b place h)
 
   -- ---- any record of it, cut anywhere that still opens
-  module _ (limit : ℕ) (numbers : List ℤ) (numbers-fit : length numbers ≡ 4 ^ k) (bytes room : List ℕ) (room-fits : blockBytes * blocksFor (length (writtenOf k L (true-numbers k L label picture given) limit bytes)) ≤ length room)
+  module _ (o : Origin) (from : Known o) (limit : ℕ) (numbers : List ℤ) (numbers-fit : length numbers ≡ 4 ^ k) (bytes room : List ℕ) (room-fits : blockBytes * blocksFor (o .edition) (length (writtenOf k L (true-numbers k L label picture given) limit bytes)) ≤ length room)
       (payload : List ℕ) (lent : List ℤ) (lent-fits : length lent ≡ 4 ^ k) (shown : List ℕ) (shown-fits : length shown ≡ 4 ^ (k - r)) (greys : List ℤ) (greys-fit : length greys ≡ 4 ^ (k - r)) where
     -- the bits in the record; what is seen of its first m bytes, and the bits that are left in them
     abbrev pub recorded : List Bool
     recorded = writtenOf k L (true-numbers k L label picture given) limit bytes
 
     abbrev pub seen : ℕ → Seen
-    seen m = thumbnailOutOfRecord r label (take m ((intoRecord k L label picture limit numbers bytes room) .room)) payload lent shown greys
+    seen m = thumbnailOutOfRecord r label (take m ((intoRecord k L o label picture limit numbers bytes room) .room)) payload lent shown greys
 
     abbrev pub left : ℕ → ℕ
-    left m = bitsIn recorded (m / blockBytes)
+    left m = bitsIn (o .edition) recorded (m / blockBytes)
 
-    module _ (m : ℕ) (opens : Opens recorded payload m) where
-      seen-is : seen m ≡ seenAs k L (way.n k L label picture given) recorded payload (m / blockBytes) (first k L label picture given (left m)) (rebuiltAs (k - r) (thumbnailOf k L r ((first k L label picture given (left m)) .numbers)))
-      seen-is = thumbnail-out-is k L label picture given limit numbers numbers-fit bytes room room-fits m payload opens lent lent-fits r halves shown shown-fits greys greys-fit
+    module _ (m : ℕ) (opens : Opens (o .edition) recorded payload m) where
+      seen-is : seen m ≡ seenAs o k L (way.n k L label picture given) recorded payload (m / blockBytes) (first k L label picture given (left m)) (rebuiltAs (k - r) (thumbnailOf k L r ((first k L label picture given (left m)) .numbers)))
+      seen-is = thumbnail-out-is k L label picture given o from limit numbers numbers-fit bytes room room-fits m payload opens lent lent-fits r halves shown shown-fits greys greys-fit
 
-      -- It opens, with as many planes unfinished as the picture has.
-      pub thumbnail-opens : (seen m .read .refusal ≡ 0) × (seen m .decoded .refusal ≡ 0) × (seen m .rebuilt .refusal ≡ 0)
-      thumbnail-opens = (ap (λ (s : Seen). s .read .refusal) seen-is, ap (λ (s : Seen). s .decoded .refusal) seen-is, ap (λ (s : Seen). s .rebuilt .refusal) seen-is)
+      -- It opens, and says where it was shot, with as many planes unfinished as the picture has.
+      pub thumbnail-opens : (seen m .read .refusal ≡ 0) × (seen m .decoded .refusal ≡ 0) × (seen m .rebuilt .refusal ≡ 0) × (originSeen (seen m) ≡ givenBack o)
+      thumbnail-opens = (ap (λ (s : Seen). s .read .refusal) seen-is, ap (λ (s : Seen). s .decoded .refusal) seen-is, ap (λ (s : Seen). s .rebuilt .refusal) seen-is, ap originSeen seen-is)
 
       pub cut-unfinished : seen m .decoded .unfinished ≡ unfinished (left m)
       cut-unfinished = ap (λ (s : Seen). s .decoded .unfinished) seen-is

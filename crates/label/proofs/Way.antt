@@ -1,26 +1,24 @@
 -- The way of wavelet numbers into a record and back, through the jobs' definitions: whatever was lent, and wherever the
 -- record is cut, what comes back is what the first bits of the coding settle.
-use mathlib.Core.Path.{_≡_, refl, sym, ap, _∙_, subst}
-use mathlib.Core.Bool.{Bool, true, false, _&&_}
-use mathlib.Core.List.{List, [], _∷_, _++_}
-use Prim.Native.Nat.{ℕ, zero, suc, _+_, _*_, _-_, _/_, _^_, _<_, _≤_, min}
+use mathlib.Core.Path.{_≡_, refl, sym, ap, _∙_}
+use mathlib.Core.Bool.{Bool, true}
+use mathlib.Core.List.{List, [], _∷_}
+use Prim.Native.Nat.{ℕ, suc, _*_, _-_, _/_, _^_, _≤_, min}
 use native.Mathlib.Omega.{arith}
-use lib.Dec.{leb, eqb}
 use lib.IntN.{ℤ}
 use lib.ListN.{length, take, drop, length-take, length-append}
 use lib.Seq.{take-take, take-all, take-append-seam}
 use borrow.Author.Tests.{le-leb, eq-eqb}
-use Rattle.paper.specs.Sizes.{sizeIn, levelsIn, planesIn, numbersIn, mostBits, unless}
+use Rattle.paper.specs.Sizes.{sizeIn, levelsIn, numbersIn, mostBits}
 use Rattle.paper.specs.Lists.{over, parts}
-use Rattle.paper.specs.Walk.{planeCount, codeOf, decodeOf, Settled}
-use Rattle.paper.specs.Bits.{bits, packed, laid, byteOf}
-use Rattle.paper.specs.Block.{blockBytes, payloadStart, payloadBytes, isLabel}
+use Rattle.paper.specs.Walk.{planeCount, codeOf, decodeOf}
+use Rattle.paper.specs.Bits.{bits, packed, laid}
+use Rattle.paper.specs.Block.{blockBytes, Origin, editionIn, originIn, isLabel}
 use Rattle.paper.specs.Record.{blocksFor}
-use Rattle.paper.specs.Jobs.{sizesRefusal, isSquare, Coding, codingRefusal, writtenOf, codingJob, Decoding, decodingRefusal, settledJob, decodingJob, Writing, writingRefusal, writingJob, Read, readingJob}
+use Rattle.paper.specs.Jobs.{roomBytes, codingRefusal, writtenOf, codingJob, decodingRefusal, settledJob, decodingJob, writingRefusal, writingJob, readingJob}
 use Rattle.sizes.proofs.Ranges.{levels-less}
 use Rattle.sizes.proofs.Refusals.{sizes-passed, done-is}
 use Rattle.sizes.proofs.Numbers.{count-in}
-use Rattle.bits.proofs.OneBit.{bits-length}
 use Rattle.bits.proofs.Packing.{bits-take, bits-laid, packed-length}
 use Rattle.record_laws.specs.ReadBack.{bitsIn, bits-read, readBack}
 use Rattle.record_laws.specs.BothJobs.{read-written}
@@ -44,6 +42,11 @@ pub record Numbers (k L : ℕ) (numbers : List ℤ) : Type 0 where
   pub levels : levelsIn k L ≡ true
   pub square : length numbers ≡ 4 ^ k
   pub small : numbersIn numbers ≡ true
+
+-- where it is made: an edition that there is, and arm and mount in range where it names them
+pub record Known (o : Origin) : Type 0 where
+  pub known : editionIn (o .edition) ≡ true
+  pub origin : originIn o ≡ true
 
 -- ---- coding
 module _ (k L : ℕ) (numbers : List ℤ) (given : Numbers k L numbers) (limit : ℕ) (bytes : List ℕ) where
@@ -77,40 +80,42 @@ module _ (k L : ℕ) (numbers : List ℤ) (given : Numbers k L numbers) (limit :
   bits-written = bits-laid bytes written fits
 
   -- ---- record writing
-  module _ (label : List ℕ) (labelled : isLabel label ≡ true) (room : List ℕ) (blocks-fit : blockBytes * blocksFor (length written) ≤ length room) where
-    pub accepted : writingRefusal k L (planeCount numbers) label (laid written bytes) (length written) room ≡ 0
+  module _ (o : Origin) (from : Known o) (label : List ℕ) (labelled : isLabel label ≡ true) (room : List ℕ) (blocks-fit : blockBytes * blocksFor (o .edition) (length written) ≤ length room) where
+    pub accepted : writingRefusal k L (planeCount numbers) o label (laid written bytes) (length written) room ≡ 0
     unfolding writingRefusal
     accepted = sizes-passed k L _ (given .size) (given .levels) ∙ rw (
       count-in numbers,
+      from .known,
       le-leb (length written) (8 * length (laid written bytes)) (omega (arith, fits, length-laid written bytes)),
       le-leb (length written) (mostBits k (planeCount numbers)) bounded,
-      le-leb (blockBytes * blocksFor (length written)) (length room) blocks-fit,
+      le-leb (blockBytes * blocksFor (o .edition) (length written)) (length room) blocks-fit,
       labelled,
+      from .origin,
     )
 
     -- the record, as the writing job leaves it in the room
     abbrev pub record-room : List ℕ
-    record-room = (writingJob k L (planeCount numbers) label (laid written bytes) (length written) room) .room
+    record-room = (writingJob k L (planeCount numbers) o label (laid written bytes) (length written) room) .room
 
     -- ---- reading a first part of it, of m bytes
-    module _ (m : ℕ) (opens : blockBytes ≤ m) (within : m ≤ blockBytes * blocksFor (length written)) (payload : List ℕ) (payload-fits : payloadBytes payloadStart * (m / blockBytes) ≤ length payload) where
+    module _ (m : ℕ) (opens : blockBytes ≤ m) (within : m ≤ blockBytes * blocksFor (o .edition) (length written)) (payload : List ℕ) (payload-fits : roomBytes * (m / blockBytes) ≤ length payload) where
       -- the bits that come back
       abbrev pub kept : ℕ
-      kept = bitsIn written (m / blockBytes)
+      kept = bitsIn (o .edition) written (m / blockBytes)
 
-      pub read : readingJob (take m record-room) label payload ≡ readBack k L (planeCount numbers) written payload (m / blockBytes)
+      pub read : readingJob (take m record-room) label payload ≡ readBack o k L (planeCount numbers) written payload (m / blockBytes)
       read =
-          read-written k L (planeCount numbers) label (laid written bytes) (length written) room accepted m payload opens within payload-fits
-          ∙ ap (λ l. readBack k L (planeCount numbers) l payload (m / blockBytes)) bits-written
+          read-written k L (planeCount numbers) o label (laid written bytes) (length written) room accepted m payload opens within payload-fits
+          ∙ ap (λ l. readBack o k L (planeCount numbers) l payload (m / blockBytes)) bits-written
 
       -- ---- decoding what was read
       abbrev pub kept-room : List ℕ
-      kept-room = (readBack k L (planeCount numbers) written payload (m / blockBytes)) .room
+      kept-room = (readBack o k L (planeCount numbers) written payload (m / blockBytes)) .room
 
       first-bits : take kept (bits kept-room) ≡ take kept (codeOf k L numbers)
       first-bits =
           bits-front kept (packed (parts kept 8) (take kept written)) payload (omega (arith, packed-length (parts kept 8) (take kept written)))
-          ∙ bits-read written (m / blockBytes)
+          ∙ bits-read (o .edition) written (m / blockBytes)
           ∙ written-first kept (omega arith)
 
       pub decoded : (lent : List ℤ) → length lent ≡ 4 ^ k → decodingJob k L (planeCount numbers) lent kept-room kept ≡ settledJob (decodeOf k L (planeCount numbers) (take kept (codeOf k L numbers)))

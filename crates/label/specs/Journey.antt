@@ -2,20 +2,25 @@
 use mathlib.Core.List.{List}
 use Prim.Native.Nat.{ℕ}
 use lib.IntN.{ℤ}
+use Rattle.paper.specs.Block.{Origin}
 use Rattle.paper.specs.Jobs.{forwardJob, codingJob, Decoding, decodingJob, Inverse, inverseJob, thumbnailJob, Writing, writingJob, Read, readingJob}
 
--- forward, coding up to a bit limit, record writing
-unfoldable pub intoRecord : ℕ → ℕ → List ℕ → List ℕ → ℕ → List ℤ → List ℕ → List ℕ → Writing
-intoRecord k L label picture limit numbers bytes room =
+-- forward, coding up to a bit limit, record writing in the edition asked for
+unfoldable pub intoRecord : ℕ → ℕ → Origin → List ℕ → List ℕ → ℕ → List ℤ → List ℕ → List ℕ → Writing
+intoRecord k L o label picture limit numbers bytes room =
     let f = forwardJob k L picture numbers in
     let c = codingJob k L (f .numbers) limit bytes in
-    writingJob k L (c .n) label (c .bytes) (c .written) room
+    writingJob k L (c .n) o label (c .bytes) (c .written) room
 
 -- what each step out of a record answers and leaves
 pub record Seen : Type 0 where
   pub read : Read
   pub decoded : Decoding
   pub rebuilt : Inverse
+
+-- where it was shot, as the reader gives it
+abbrev pub originSeen : Seen → Origin
+originSeen s = record { edition = s .read .edition; arm = s .read .arm; mount = s .read .mount }
 
 -- record reading, decoding, and the job that makes greys of what was decoded
 abbrev pub seenBy : (ℕ → ℕ → List ℤ → Inverse) → List ℕ → List ℕ → List ℕ → List ℤ → Seen

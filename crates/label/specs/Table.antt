@@ -7,9 +7,9 @@ use lib.Dec.{leb, eqb}
 use lib.IntN.{ℤ}
 use lib.ListN.{length, take}
 use Rattle.paper.specs.Sizes.{sizeIn, levelsIn, halvingsIn, planesIn, numbersIn, mostBits}
-use Rattle.paper.specs.Block.{blockBytes, isLabel, payloadBytes, payloadStart, checksRight, fieldsRight}
+use Rattle.paper.specs.Block.{blockBytes, isLabel, Origin, editionIn, originIn, checksRight, contentsRight}
 use Rattle.paper.specs.Record.{blocksFor, wholeBlocks, blockAt, said, inTurn}
-use Rattle.paper.specs.Jobs.{isSquare}
+use Rattle.paper.specs.Jobs.{isSquare, roomBytes}
 
 -- a row: its number, and whether what it asks holds; it applies where that does not hold
 pub record Row : Type 0 where
@@ -31,7 +31,7 @@ pub record First (rows : List Row) (r : ℕ) : Type 0 where
   pub none : r ≡ 0 → {w : Row} → List·Memᴰ w rows → w .holds ≡ true
   pub applies : 0 < r → (before : List Row) × (w : Row) × (after : List Row) × (rows ≡ before ++ (w ∷ after)) × ((v : Row) → List·Memᴰ v before → v .holds ≡ true) × (w .holds ≡ false) × (w .number ≡ r)
 
--- the numbers whose refusal, whatever the job, leaves something behind in what was lent; in this edition there is none
+-- the numbers whose refusal, whatever the job, leaves something behind in what was lent; today there is none
 abbrev pub leavesSomething : ℕ → Bool
 leavesSomething r = false
 
@@ -64,15 +64,16 @@ thumbnailRows k L r numbers picture room =
     row 1 (sizeIn k) ∷ row 2 (levelsIn k L) ∷ row 13 (halvingsIn L r)
     ∷ row 3 (isSquare k (length numbers) && isSquare (k - r) (length picture) && isSquare (k - r) (length room)) ∷ row 4 (numbersIn (take (4 ^ (k - r)) numbers)) ∷ []
 
-abbrev pub writingRows : ℕ → ℕ → ℕ → List ℕ → List ℕ → ℕ → List ℕ → List Row
-writingRows k L n label bytes b room =
-    row 1 (sizeIn k) ∷ row 2 (levelsIn k L) ∷ row 5 (planesIn n)
-    ∷ row 6 (leb b (8 * length bytes) && leb b (mostBits k n) && leb (blockBytes * blocksFor b) (length room)) ∷ row 7 (isLabel label) ∷ []
+-- 9 stands twice: the edition is judged before 6, arm and mount in their number's order
+abbrev pub writingRows : ℕ → ℕ → ℕ → Origin → List ℕ → List ℕ → ℕ → List ℕ → List Row
+writingRows k L n o label bytes b room =
+    row 1 (sizeIn k) ∷ row 2 (levelsIn k L) ∷ row 5 (planesIn n) ∷ row 9 (editionIn (o .edition))
+    ∷ row 6 (leb b (8 * length bytes) && leb b (mostBits k n) && leb (blockBytes * blocksFor (o .edition) b) (length room)) ∷ row 7 (isLabel label) ∷ row 9 (originIn o) ∷ []
 
 abbrev pub readingRows : List ℕ → List ℕ → List ℕ → List Row
 readingRows s label room =
-    row 6 (leb blockBytes (length s) && leb (payloadBytes payloadStart * wholeBlocks s) (length room)) ∷ row 7 (isLabel label)
-    ∷ row 8 (checksRight (blockAt s 0)) ∷ row 9 (fieldsRight payloadStart (blockAt s 0)) ∷ row 10 (inTurn (said (blockAt s 0)) label 0 (blockAt s 0)) ∷ []
+    row 6 (leb blockBytes (length s) && leb (roomBytes * wholeBlocks s) (length room)) ∷ row 7 (isLabel label)
+    ∷ row 8 (checksRight (blockAt s 0)) ∷ row 9 (contentsRight (blockAt s 0)) ∷ row 10 (inTurn (said (blockAt s 0)) label 0 (blockAt s 0)) ∷ []
 
 abbrev pub checkRows : List ℕ → List Row
-checkRows block = row 6 (eqb (length block) blockBytes) ∷ row 8 (checksRight block) ∷ row 9 (fieldsRight payloadStart block) ∷ []
+checkRows block = row 6 (eqb (length block) blockBytes) ∷ row 8 (checksRight block) ∷ row 9 (contentsRight block) ∷ []

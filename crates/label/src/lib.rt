@@ -63,32 +63,37 @@ pub fn thumbnail(
     thumbnail::thumbnail(k, levels, halvings, numbers, picture, room)
 }
 
-// Writes the record of the first b bits at the front of the room, and gives its count of blocks; later bytes are
-// untouched. Refusals 1, 2, 5, 6, 7.
+// Writes the record of the first b bits, in edition 1 or 2, at the front of the room, and gives its count of blocks; later
+// bytes are untouched. Edition 2 names the arm, 1 or 2, and its mount number; edition 1 ignores both.
+// Refusals 1, 2, 5, 9 (edition), 6, 7, 9 (arm, mount), judged in this order.
 pub fn write(
     k: u32,
     levels: u32,
     n: u32,
+    edition: u32,
+    arm: u32,
+    mount: u32,
     label: &[u8],
     bytes: &[u8],
     b: usize,
     room: &mut [u8],
 ) -> Blocks
-    ensures { λ r. ⌜ writingJob k levels n (now (label .entry)) (now (bytes .entry)) b (now (room .entry)) ≡ record { refusal = r .refusal; blocks = r .blocks; room = now (room .exit) } ⌝ }
+    ensures { λ r. ⌜ writingJob k levels n (record { edition = edition; arm = arm; mount = mount }) (now (label .entry)) (now (bytes .entry)) b (now (room .entry)) ≡ record { refusal = r .refusal; blocks = r .blocks; room = now (room .exit) } ⌝ }
 {
-    record::write(k, levels, n, label, bytes, b, room)
+    record::write(k, levels, n, edition, arm, mount, label, bytes, b, room)
 }
 
-// Keeps the longest run of good blocks from the front: gives k, L, n, the blocks kept, their bits and the number that
-// ended the run, and lays their payload at the front of the room; later bytes are untouched. Refusals 6, 7, 8, 9, 10.
+// Keeps the longest run of good blocks from the front, of either edition: gives k, L, n, the blocks kept, their bits, the
+// number that ended the run, the edition, arm and mount (0 and 0 in edition 1), and lays their payload at the front of the
+// room; later bytes are untouched. Refusals 6, 7, 8, 9, 10.
 pub fn read(blocks: &[u8], label: &[u8], room: &mut [u8]) -> Kept
-    ensures { λ r. ⌜ readingJob (now (blocks .entry)) (now (label .entry)) (now (room .entry)) ≡ record { refusal = r .refusal; k = r .k; L = r .levels; n = r .n; blocks = r .blocks; bits = r .bits; ended = r .ended; room = now (room .exit) } ⌝ }
+    ensures { λ r. ⌜ readingJob (now (blocks .entry)) (now (label .entry)) (now (room .entry)) ≡ record { refusal = r .refusal; k = r .k; L = r .levels; n = r .n; blocks = r .blocks; bits = r .bits; ended = r .ended; edition = r .edition; arm = r .arm; mount = r .mount; room = now (room .exit) } ⌝ }
 {
     record::read(blocks, label, room)
 }
 
-// Judges a single block: 0, or 6, 8 or 9. A block whose checks were right, with one or two bytes changed in place or two
-// unequal ones exchanged, is answered 8 (check_laws/specs/Caught.antt).
+// Judges a single block, of either edition: 0, or 6, 8 or 9. A block whose checks were right, with one or two bytes changed in
+// place or two unequal ones exchanged, is answered 8 (check_laws/specs/Caught.antt).
 pub fn check(block: &[u8]) -> u32
     ensures { λ r. ⌜ r ≡ checkJob (now (block .entry)) ⌝ }
 {

@@ -34,9 +34,9 @@ module _ {A : Type 0} (m : ℕ) (f : ℕ → List A) where
   ]
 
   -- no part yet, and then one more laid behind those that are there
-  pub none-joined : (old : List A) → old ≡ joined 0 f ++ drop 0 old
+  pub none-joined : (old : List A) → old ≡ joined 0 f ++ drop (m * 0) old
   unfolding joined
-  none-joined old = refl
+  none-joined old = ap (λ n. drop n old) (sym (mul-zero m))
 
   pub one-joined : (i : ℕ) → Even m f i → (part out old : List A) → out ≡ joined i f ++ drop (m * i) old → part ≡ f i
       → take (m * i) out ++ (part ++ drop (m * i + m) out) ≡ joined (i + 1) f ++ drop (m * (i + 1)) old

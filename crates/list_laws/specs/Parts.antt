@@ -5,9 +5,11 @@ use mathlib.Core.List.{List, [], _∷_, _++_, append-nil, append-assoc}
 use Prim.Native.Nat.{ℕ, zero, suc, _+_, _*_, _-_, _≤_}
 use native.Mathlib.Nat.{sub-zero}
 use native.Mathlib.Omega.{arith}
-use lib.ListN.{length, take, drop, getD, set, length-take, length-drop, length-append, take-append-drop}
-use lib.Seq.{drop-drop, take-nil, take-all, take-take, take-at, drop-at}
+use native.Mathlib.Decide.{decLt}
+use lib.ListN.{length, take, drop, getD, set, length-take, length-drop, length-append, take-append-drop, List·getD-eq-default}
+use lib.Seq.{drop-drop, take-nil, take-all, take-take, take-at, drop-at, getD-take, getD-drop}
 use borrow.Rule.Slice.PartMut.{putMid, postOf}
+use Rattle.paper.specs.Lists.{Bytes}
 
 pub drop-take : {A : Type 0} (n m : ℕ) (l : List A) → n ≤ m → drop n (take m l) ≡ take (m - n) (drop n l)
 drop-take zero m l h = let e : m - 0 ≡ m = omega arith in rw e
@@ -18,6 +20,13 @@ drop-take (suc n) (suc m) (a ∷ l) h = let e : suc m - suc n ≡ m - n = omega 
 -- a part that lies within the front
 pub part-of-front : {A : Type 0} (a b m : ℕ) (l : List A) → a + b ≤ m → take b (drop a (take m l)) ≡ take b (drop a l)
 part-of-front a b m l h = ap (take b) (drop-take a m l (omega arith)) ∙ take-take b (m - a) (drop a l) (omega arith)
+
+-- a part of bytes is bytes, and none stand behind it
+pub part-bytes : (m n : ℕ) (s : List ℕ) → Bytes s → Bytes (take m (drop n s))
+part-bytes m n s bytes j = elim (decLt j m) [
+  | yes h ↦ rw (getD-take m (drop n s) j 0 h, getD-drop n s j 0) (bytes (n + j))
+  | no h ↦ rw (List·getD-eq-default (take m (drop n s)) 0 (let e : length (take m (drop n s)) ≤ j = omega (arith, length-take m (drop n s)) in e)) (omega arith)
+]
 
 -- what lies behind a part that was lent, from a to e
 pub behind-part : {A : Type 0} (a e : ℕ) (s : List A) → a ≤ e → drop (e - a) (drop a s) ≡ drop e s

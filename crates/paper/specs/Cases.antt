@@ -1,5 +1,5 @@
--- What was checked by hand: P1 to P11, one list under one claim, and with it thumbnails, two whole blocks, the checks of 508 bytes of
--- 255, the label's leading zeros and the characters that it may have.
+-- What was checked by hand: P1 to P11, one list under one claim, and with it thumbnails, whole blocks of both editions, the checks of
+-- 508 bytes of 255, the label's leading zeros and the characters that it may have, and what edition 2 adds.
 -- Each is proved by computing what the definitions say.
 use mathlib.Core.Path.{_≡_, refl}
 use mathlib.Core.Bool.{Bool, true, false}
@@ -14,9 +14,10 @@ use Rattle.paper.specs.Places.{interleaved, columnOf, rowOf, zOf, raster
 use Rattle.paper.specs.Square.{placeOf, lineOf, spotOf, line, along, levelForward, levelBack, onFirst, levelsForward, levelsBack, lowered, raised, grey, pictured, numbersOf, greysOf, lowBand, lowGreysOf, thumbnailOf}
 use Rattle.paper.specs.Walk.{bitOf, reaches, largest, bitsNeeded, planeCount, testSet, refined, begun, walkNumber, _next_, walkNumbers, walkSet, walkRest, walkPlane, walkPlanes, codeOf, decodeOf}
 use Rattle.paper.specs.Bits.{bits, byteOf, packed, laid, allZero}
-use Rattle.paper.specs.Block.{labelCharacter, labelCharacters, isLabel, sameBytes, plainSum, weighedSum, header, sealed, payloadOf, checksRight, fieldsRight, blockRefusal}
-use Rattle.paper.specs.Record.{blockOf, recordOf, inTurn, turnRefusal, runFrom, bitsKept, payloadKept}
-use Rattle.paper.specs.Jobs.{sizesRefusal, Forward, forwardRefusal, forwardJob, Coding, codingRefusal, writtenOf, codingJob, Decoding, decodingRefusal, decodingJob, Inverse, thumbnailRefusal, thumbnailJob, Writing, writingRefusal, writingJob, Read, readingRefusal, readingJob}
+use Rattle.paper.specs.Block.{labelCharacter, labelCharacters, isLabel, sameBytes, Origin, editionIn, armIn, originIn, plainSum, weighedSum, startOf, payloadBytes, header, named, sealed, namedOf, payloadOf, checksRight, originRight, fieldsRight, blockRefusal}
+use Rattle.paper.specs.Record.{madeBlock, blocksFor, blockOf, recordOf, said, inTurn, turnRefusal, runFrom, bitsKept, payloadKept}
+use Rattle.paper.specs.Jobs.{sizesRefusal, forwardRefusal, forwardJob, Coding, codingRefusal, writtenOf, codingJob, Decoding, decodingRefusal, decodingJob, Inverse, thumbnailRefusal, thumbnailJob, writingRefusal, writingJob, lentRefusal, readingRefusal, readingJob}
+use Rattle.paper.specs.First.{firstRefusal, firstInTurn, firstReading}
 
 -- ---- what is given
 -- the numbers that a slice holds before it is filled: those of the last label
@@ -65,6 +66,33 @@ labelL6 = 0x30 ∷ 0x34 ∷ 0x31 ∷ 0x37 ∷ 0x41 ∷ 0x41 ∷ 0x4C ∷ 0x36 �
 abbrev pub blockL6 : List ℕ
 blockL6 = 0x01 ∷ 0x03 ∷ 0x02 ∷ 0x03 ∷ (labelL6 ++ 0x00 ∷ 0x00 ∷ 0x00 ∷ 0x11 ∷ 0xC0 ∷ 0x08 ∷ 0x00 ∷ (replicate 489 0x00 ++ 0x02 ∷ 0xB2 ∷ 0x1E ∷ 0x4F ∷ []))
 
+-- edition 1, which ignores arm and mount: in edition 2 both would be refused
+abbrev pub edition1 : Origin
+edition1 = record { edition = 1; arm = 3; mount = 16777216 }
+
+abbrev pub edition2 : ℕ → ℕ → Origin
+edition2 arm mount = record { edition = 2; arm = arm; mount = mount }
+
+-- P3's 17 bits in a block with label 0417AAL6 that arm 2 made at its mount 70123, 0x0111EB, whole
+abbrev pub blockArm2 : List ℕ
+blockArm2 = 0x02 ∷ 0x03 ∷ 0x02 ∷ 0x03 ∷ (labelL6 ++ 0x00 ∷ 0x00 ∷ 0x00 ∷ 0x11 ∷ 0x02 ∷ 0x01 ∷ 0x11 ∷ 0xEB ∷ 0xC0 ∷ 0x08 ∷ 0x00 ∷ (replicate 485 0x00 ++ 0x03 ∷ 0xB2 ∷ 0x35 ∷ 0x43 ∷ []))
+
+-- the refusal of the writer, asked for it with another origin, label or room
+abbrev pub written : Origin → List ℕ → ℕ → ℕ
+written o label room = (writingJob 3 2 3 o label (0xC0 ∷ 0x08 ∷ 0x00 ∷ []) 17 (replicate room 0x55)) .refusal
+
+-- a block with so many payload bits, all 0
+abbrev pub zeroBits : Origin → ℕ → ℕ → List ℕ
+zeroBits o number count = madeBlock o 3 2 3 labelL6 number count (replicate (payloadBytes (startOf (o .edition))) 0x00)
+
+-- a block of edition 1 with another k, L or n, and no bits
+abbrev pub flatBlock : ℕ → ℕ → ℕ → List ℕ
+flatBlock k L n = madeBlock edition1 k L n labelL6 0 0 (replicate 492 0x00)
+
+-- the number that ends a run when a block of another origin stands behind the full block that arm 2 made at its mount 70123
+abbrev pub behindArm2 : Origin → ℕ
+behindArm2 o = (readingJob (zeroBits (edition2 2 70123) 0 3904 ++ zeroBits o 1 0) labelL6 (replicate 984 0x55)) .ended
+
 -- 0417AAL6 with each of these characters in each of its eight places: is it a label?
 abbrev pub inEachPlace : List ℕ → List Bool
 inEachPlace cs = joined 8 (λ place. made (length cs) (λ i. isLabel (take place labelL6 ++ getD cs i 0 ∷ drop (suc place) labelL6)))
@@ -99,11 +127,39 @@ pub record Checked : Type 0 where
   pub thumbnail-unhalved : (thumbnail 0 (zeros 64)) .refusal ≡ 13
   pub thumbnail-deep : (thumbnail 3 []) .refusal ≡ 13
   pub thumbnail-levels : (thumbnailJob 3 3 0 [] [] []) .refusal ≡ 2
-  pub block : writingJob 3 2 0 label417 [] 0 (replicate 514 0x55) ≡ record { refusal = 0; blocks = 1; room = block417 ++ 0x55 ∷ 0x55 ∷ [] }
-  pub label : readingJob block417 label417 (replicate 492 0x55) ≡ record { refusal = 0; k = 3; L = 2; n = 0; blocks = 1; bits = 0; ended = 0; room = replicate 492 0x55 }
+  pub block : writingJob 3 2 0 edition1 label417 [] 0 (replicate 514 0x55) ≡ record { refusal = 0; blocks = 1; room = block417 ++ 0x55 ∷ 0x55 ∷ [] }
+  pub label : readingJob block417 label417 (replicate 492 0x55) ≡ record { refusal = 0; k = 3; L = 2; n = 0; blocks = 1; bits = 0; ended = 0; edition = 1; arm = 0; mount = 0; room = replicate 492 0x55 }
   pub zeros-kept : (readingJob block417 (0x34 ∷ 0x31 ∷ 0x37 ∷ []) (replicate 492 0x55)) .refusal ≡ 7
-  pub block-L6 : writingJob 3 2 3 labelL6 (0xC0 ∷ 0x08 ∷ 0x00 ∷ []) 17 (replicate 514 0x55) ≡ record { refusal = 0; blocks = 1; room = blockL6 ++ 0x55 ∷ 0x55 ∷ [] }
-  pub label-L6 : readingJob blockL6 labelL6 (replicate 492 0x55) ≡ record { refusal = 0; k = 3; L = 2; n = 3; blocks = 1; bits = 17; ended = 0; room = 0xC0 ∷ 0x08 ∷ 0x00 ∷ replicate 489 0x55 }
+  pub block-L6 : writingJob 3 2 3 edition1 labelL6 (0xC0 ∷ 0x08 ∷ 0x00 ∷ []) 17 (replicate 514 0x55) ≡ record { refusal = 0; blocks = 1; room = blockL6 ++ 0x55 ∷ 0x55 ∷ [] }
+  pub label-L6 : readingJob blockL6 labelL6 (replicate 492 0x55) ≡ record { refusal = 0; k = 3; L = 2; n = 3; blocks = 1; bits = 17; ended = 0; edition = 1; arm = 0; mount = 0; room = 0xC0 ∷ 0x08 ∷ 0x00 ∷ replicate 489 0x55 }
+  pub block-arm-2 : writingJob 3 2 3 (edition2 2 70123) labelL6 (0xC0 ∷ 0x08 ∷ 0x00 ∷ []) 17 (replicate 514 0x55) ≡ record { refusal = 0; blocks = 1; room = blockArm2 ++ 0x55 ∷ 0x55 ∷ [] }
+  pub label-arm-2 : readingJob blockArm2 labelL6 (replicate 492 0x55) ≡ record { refusal = 0; k = 3; L = 2; n = 3; blocks = 1; bits = 17; ended = 0; edition = 2; arm = 2; mount = 70123; room = 0xC0 ∷ 0x08 ∷ 0x00 ∷ replicate 489 0x55 }
+  -- a program of the first edition refuses it, and a block of edition 2 that would pass if the edition were not looked at
+  pub first-refuses : firstRefusal blockArm2 ∷ firstRefusal (zeroBits (edition2 1 0) 0 3904) ∷ [] ≡ 9 ∷ 9 ∷ []
+  pub first-reads-none : (firstReading blockArm2 labelL6 (replicate 492 0x55)) .refusal ≡ 9
+  -- it opens edition 1, up to the sides, levels and planes that there are, and ends at edition 2
+  pub first-reads : firstReading blockL6 labelL6 (replicate 492 0x55) ≡ record { refusal = 0; k = 3; L = 2; n = 3; blocks = 1; bits = 17; ended = 0; room = 0xC0 ∷ 0x08 ∷ 0x00 ∷ replicate 489 0x55 }
+  pub first-limits : firstRefusal (flatBlock 8 5 18) ∷ firstRefusal (flatBlock 9 5 18) ∷ firstRefusal (flatBlock 8 6 18) ∷ firstRefusal (flatBlock 8 5 19) ∷ [] ≡ 0 ∷ 9 ∷ 9 ∷ 9 ∷ []
+  pub first-ends : let f = firstReading (zeroBits edition1 0 3936 ++ zeroBits (edition2 1 0) 1 3904) labelL6 (replicate 984 0x55) in f .blocks ∷ f .bits ∷ f .ended ∷ [] ≡ 1 ∷ 3936 ∷ 9 ∷ []
+  -- editions 0 to 3 and arms 0 to 3, of the writer and of a block; the last mount number, and one beyond
+  pub editions : made 4 (λ e. written (record { edition = e; arm = 1; mount = 0 }) labelL6 512) ≡ 9 ∷ 0 ∷ 0 ∷ 9 ∷ []
+  pub arms : made 4 (λ arm. written (edition2 arm 0) labelL6 512) ≡ 9 ∷ 0 ∷ 0 ∷ 9 ∷ []
+  pub mounts : made 2 (λ more. written (edition2 1 (16777215 + more)) labelL6 512) ≡ 0 ∷ 9 ∷ []
+  pub editions-checked : made 4 (λ e. blockRefusal (zeroBits (record { edition = e; arm = 1; mount = 0 }) 0 0)) ≡ 9 ∷ 0 ∷ 0 ∷ 9 ∷ []
+  pub arms-checked : made 4 (λ arm. blockRefusal (zeroBits (edition2 arm 0) 0 0)) ≡ 9 ∷ 0 ∷ 0 ∷ 9 ∷ []
+  -- of the writer the edition is judged before 6, arm and mount after 7
+  pub edition-before-room : written (record { edition = 3; arm = 1; mount = 0 }) labelL6 511 ≡ 9
+  pub room-before-arm : written (edition2 3 0) labelL6 511 ≡ 6
+  pub label-before-arm : written (edition2 3 0) [] 512 ≡ 7
+  -- 3,905 bits fit one block of edition 1, and not one of edition 2
+  pub room-of-edition : made 2 (λ e. (writingJob 6 2 18 (record { edition = suc e; arm = 1; mount = 0 }) labelL6 (replicate 489 0x00) 3905 (replicate 512 0x55)) .refusal) ≡ 0 ∷ 6 ∷ []
+  -- at most 3,936 payload bits in edition 1, and 3,904 in edition 2
+  pub counts : made 2 (λ more. blockRefusal (zeroBits edition1 0 (3936 + more))) ≡ 0 ∷ 9 ∷ []
+  pub counts-2 : made 2 (λ more. blockRefusal (zeroBits (edition2 1 0) 0 (3904 + more))) ≡ 0 ∷ 9 ∷ []
+  pub block-counts : blocksFor 1 3936 ∷ blocksFor 1 3937 ∷ blocksFor 2 3904 ∷ blocksFor 2 3905 ∷ [] ≡ 1 ∷ 2 ∷ 1 ∷ 2 ∷ []
+  -- arm, each byte of the mount number, and the edition agree within a record
+  pub agree : behindArm2 (edition2 2 70123) ≡ 0
+  pub disagree : behindArm2 (edition2 1 70123) ∷ behindArm2 (edition2 2 135659) ∷ behindArm2 (edition2 2 70379) ∷ behindArm2 (edition2 2 70124) ∷ behindArm2 edition1 ∷ [] ≡ replicate 5 10
   -- 508 bytes of 255: both sums, 129,540 and 32,967,930, are beyond the modulus
   pub checks : sealed (replicate 508 0xFF) ≡ replicate 508 0xFF ++ 0xFA ∷ 0x13 ∷ 0x2A ∷ 0x73 ∷ []
   pub every-character : made 256 labelCharacter ≡ replicate 48 false ++ (replicate 10 true ++ (replicate 7 false ++ (replicate 26 true ++ replicate 165 false)))
@@ -113,5 +169,5 @@ pub record Checked : Type 0 where
   pub no-characters : inEachPlace (0x2F ∷ 0x3A ∷ 0x40 ∷ 0x5B ∷ 0x60 ∷ 0x61 ∷ 0x7A ∷ 0x7B ∷ 0x20 ∷ 0x00 ∷ 0xFF ∷ []) ≡ replicate 88 false
 
 pub checked : Checked
-unfolding sizeIn levelsIn halvingsIn planesIn numbersIn mostBits made joined highOf lowOf highAt lowAt lineForward oddOf evenOf evenAt oddAt woven lineBack interleaved columnOf rowOf zOf rasterOf placeOf lineOf spotOf line along levelForward levelBack onFirst levelsForward levelsBack lowered raised grey pictured numbersOf greysOf lowBand lowGreysOf thumbnailOf bitOf reaches largest bitsNeeded planeCount testSet refined begun walkNumber _next_ walkNumbers walkSet walkRest walkPlane walkPlanes codeOf decodeOf bits byteOf packed laid allZero labelCharacter labelCharacters isLabel sameBytes plainSum weighedSum header sealed payloadOf checksRight fieldsRight blockRefusal blockOf recordOf inTurn turnRefusal runFrom bitsKept payloadKept sizesRefusal forwardRefusal forwardJob codingRefusal writtenOf codingJob decodingRefusal decodingJob thumbnailRefusal thumbnailJob writingRefusal writingJob readingRefusal readingJob
-checked = record { P1 = refl; P2 = refl; P3 = refl; P4 = refl; P5 = refl; P6 = refl; P7 = refl; P8 = refl; P9 = refl; P9-bits = refl; P9-planes = refl; P10 = refl; P11 = refl; low-band = refl; thumbnail-early = refl; thumbnail-smallest = refl; thumbnail-beyond = refl; thumbnail-unhalved = refl; thumbnail-deep = refl; thumbnail-levels = refl; block = refl; label = refl; zeros-kept = refl; block-L6 = refl; label-L6 = refl; checks = refl; every-character = refl; characters = refl; no-characters = refl }
+unfolding sizeIn levelsIn halvingsIn planesIn numbersIn mostBits made joined editionIn armIn originIn startOf named namedOf originRight madeBlock said lentRefusal firstRefusal firstInTurn firstReading highOf lowOf highAt lowAt lineForward oddOf evenOf evenAt oddAt woven lineBack interleaved columnOf rowOf zOf rasterOf placeOf lineOf spotOf line along levelForward levelBack onFirst levelsForward levelsBack lowered raised grey pictured numbersOf greysOf lowBand lowGreysOf thumbnailOf bitOf reaches largest bitsNeeded planeCount testSet refined begun walkNumber _next_ walkNumbers walkSet walkRest walkPlane walkPlanes codeOf decodeOf bits byteOf packed laid allZero labelCharacter labelCharacters isLabel sameBytes plainSum weighedSum header sealed payloadOf checksRight fieldsRight blockRefusal blockOf recordOf inTurn turnRefusal runFrom bitsKept payloadKept sizesRefusal forwardRefusal forwardJob codingRefusal writtenOf codingJob decodingRefusal decodingJob thumbnailRefusal thumbnailJob writingRefusal writingJob readingRefusal readingJob
+checked = record { P1 = refl; P2 = refl; P3 = refl; P4 = refl; P5 = refl; P6 = refl; P7 = refl; P8 = refl; P9 = refl; P9-bits = refl; P9-planes = refl; P10 = refl; P11 = refl; low-band = refl; thumbnail-early = refl; thumbnail-smallest = refl; thumbnail-beyond = refl; thumbnail-unhalved = refl; thumbnail-deep = refl; thumbnail-levels = refl; block = refl; label = refl; zeros-kept = refl; block-L6 = refl; label-L6 = refl; block-arm-2 = refl; label-arm-2 = refl; first-refuses = refl; first-reads-none = refl; first-reads = refl; first-limits = refl; first-ends = refl; editions = refl; arms = refl; mounts = refl; editions-checked = refl; arms-checked = refl; edition-before-room = refl; room-before-arm = refl; label-before-arm = refl; room-of-edition = refl; counts = refl; counts-2 = refl; block-counts = refl; agree = refl; disagree = refl; checks = refl; every-character = refl; characters = refl; no-characters = refl }

@@ -1,9 +1,9 @@
 -- The eight jobs. Each definition gives, for every input, the refusal's number and everything that the job answers and
 -- leaves in each lent place. Rows of the refusal table stand in the order in which they are judged: lowest number first, but 13
--- between 2 and 3.
-use mathlib.Core.Bool.{Bool, true, false, _&&_}
-use mathlib.Core.List.{List, [], _∷_, _++_}
-use Prim.Native.Nat.{ℕ, zero, suc, _+_, _*_, _-_, _/_, _^_, min}
+-- between 2 and 3, and of the writer's two rows 9 the edition's before 6.
+use mathlib.Core.Bool.{Bool, _&&_}
+use mathlib.Core.List.{List}
+use Prim.Native.Nat.{ℕ, _*_, _-_, _^_, min}
 use lib.Dec.{leb, eqb}
 use lib.IntN.{ℤ}
 use lib.ListN.{length, take}
@@ -12,7 +12,7 @@ use Rattle.paper.specs.Lists.{over}
 use Rattle.paper.specs.Square.{numbersOf, greysOf, pictured, thumbnailOf}
 use Rattle.paper.specs.Walk.{planeCount, codeOf, decodeOf, Settled}
 use Rattle.paper.specs.Bits.{bits, laid}
-use Rattle.paper.specs.Block.{isLabel, byteAt, blockBytes, payloadBytes, payloadStart, blockRefusal}
+use Rattle.paper.specs.Block.{isLabel, Origin, editionIn, originIn, byteAt, blockBytes, headerBytes, startOf, payloadBytes, editionOf, armOf, mountOf, blockRefusal}
 use Rattle.paper.specs.Record.{blocksFor, recordOf, wholeBlocks, refusalAt, Run, runOf, bitsKept, payloadKept}
 
 -- rows 1 and 2, which six jobs judge first
@@ -116,26 +116,29 @@ thumbnailJob k L r numbers picture room =
     (λ r. record { refusal = r; picture = picture; room = room })
     (record { refusal = 0; picture = pictured (k - r) (thumbnailOf k L r numbers); room = thumbnailOf k L r numbers })
 
--- ---- record writing, of b bits: the record's blocks at the front of the room, and their count
+-- ---- record writing, of b bits, in the edition asked for: the record's blocks at the front of the room, and their count
 pub record Writing : Type 0 where
   pub refusal : ℕ
   pub blocks : ℕ
   pub room : List ℕ
 
-unfoldable pub writingRefusal : ℕ → ℕ → ℕ → List ℕ → List ℕ → ℕ → List ℕ → ℕ
-writingRefusal k L n label bytes b room =
+unfoldable pub writingRefusal : ℕ → ℕ → ℕ → Origin → List ℕ → List ℕ → ℕ → List ℕ → ℕ
+writingRefusal k L n o label bytes b room =
     sizesRefusal k L
     (unless 5 (planesIn n)
-    (unless 6 (leb b (8 * length bytes) && leb b (mostBits k n) && leb (blockBytes * blocksFor b) (length room))
-    (unless 7 (isLabel label) 0)))
+    (unless 9 (editionIn (o .edition))
+    (unless 6 (leb b (8 * length bytes) && leb b (mostBits k n) && leb (blockBytes * blocksFor (o .edition) b) (length room))
+    (unless 7 (isLabel label)
+    (unless 9 (originIn o) 0)))))
 
-unfoldable pub writingJob : ℕ → ℕ → ℕ → List ℕ → List ℕ → ℕ → List ℕ → Writing
-writingJob k L n label bytes b room =
-    judged (writingRefusal k L n label bytes b room)
+unfoldable pub writingJob : ℕ → ℕ → ℕ → Origin → List ℕ → List ℕ → ℕ → List ℕ → Writing
+writingJob k L n o label bytes b room =
+    judged (writingRefusal k L n o label bytes b room)
     (λ r. record { refusal = r; blocks = 0; room = room })
-    (record { refusal = 0; blocks = blocksFor b; room = over (recordOf payloadStart [] k L n label (take b (bits bytes))) room })
+    (record { refusal = 0; blocks = blocksFor (o .edition) b; room = over (recordOf o k L n label (take b (bits bytes))) room })
 
--- ---- record reading: k, L, n, blocks kept, total bits, the number that ended the run; kept payload at the front of the room
+-- ---- record reading, of any edition: k, L, n, blocks kept, total bits, the number that ended the run, edition, arm and mount (0 and
+-- 0 in edition 1); kept payload at the front of the room
 pub record Read : Type 0 where
   pub refusal : ℕ
   pub k : ℕ
@@ -144,35 +147,49 @@ pub record Read : Type 0 where
   pub blocks : ℕ
   pub bits : ℕ
   pub ended : ℕ
+  pub edition : ℕ
+  pub arm : ℕ
+  pub mount : ℕ
   pub room : List ℕ
+
+-- the room that is lent for each whole block, whatever its edition: 492
+abbrev pub roomBytes : ℕ
+roomBytes = payloadBytes headerBytes
+
+-- rows 6 and 7
+unfoldable pub lentRefusal : List ℕ → List ℕ → List ℕ → ℕ → ℕ
+lentRefusal s label room later =
+    unless 6 (leb blockBytes (length s) && leb (roomBytes * wholeBlocks s) (length room)) (unless 7 (isLabel label) later)
 
 -- if block 0 can't be kept the call is refused by its number
 unfoldable pub readingRefusal : List ℕ → List ℕ → List ℕ → ℕ
-readingRefusal s label room =
-    unless 6 (leb blockBytes (length s) && leb (payloadBytes payloadStart * wholeBlocks s) (length room))
-    (unless 7 (isLabel label) (refusalAt payloadStart s label 0))
+readingRefusal s label room = lentRefusal s label room (refusalAt s label 0)
 
-abbrev pub readRun : List ℕ → List ℕ → Run → Read
-readRun s room run = record {
+-- what is read of a run of edition e
+abbrev pub readRun : ℕ → List ℕ → List ℕ → Run → Read
+readRun e s room run = record {
   refusal = 0;
   k = byteAt s 1;
   L = byteAt s 2;
   n = byteAt s 3;
   blocks = run .kept;
-  bits = bitsKept payloadStart s (run .kept);
+  bits = bitsKept (startOf e) s (run .kept);
   ended = run .ended;
-  room = over (payloadKept payloadStart s (run .kept)) room;
+  edition = e;
+  arm = armOf s;
+  mount = mountOf s;
+  room = over (payloadKept (startOf e) s (run .kept)) room;
 }
 
 abbrev pub readRefused : List ℕ → ℕ → Read
-readRefused room r = record { refusal = r; k = 0; L = 0; n = 0; blocks = 0; bits = 0; ended = 0; room = room }
+readRefused room r = record { refusal = r; k = 0; L = 0; n = 0; blocks = 0; bits = 0; ended = 0; edition = 0; arm = 0; mount = 0; room = room }
 
 unfoldable pub readingJob : List ℕ → List ℕ → List ℕ → Read
 readingJob s label room =
     judged (readingRefusal s label room)
     (readRefused room)
-    (readRun s room (runOf payloadStart s label))
+    (readRun (editionOf s) s room (runOf s label))
 
 -- ---- single-block check: 0, or 6, 8 or 9; it doesn't judge 10
 abbrev pub checkJob : List ℕ → ℕ
-checkJob block = blockRefusal payloadStart block
+checkJob block = blockRefusal block

@@ -9,5 +9,6 @@ pub mod Bits
 pub mod Block
 pub mod Record
 pub mod Jobs
+pub mod First
 pub mod Cases
 pub mod Worse

@@ -1,35 +1,39 @@
 -- A record is blocks, one behind the other: how its bits become blocks, and which of them a reader keeps. What depends on
 -- the payload's size is said over the payload's start.
 use mathlib.Core.Bool.{Bool, true, false, _&&_}
-use mathlib.Core.List.{List, [], _∷_, _++_}
-use Prim.Native.Nat.{ℕ, zero, suc, _+_, _*_, _-_, _/_, max}
-use lib.Dec.{leb, eqb}
+use mathlib.Core.List.{List, _++_}
+use Prim.Native.Nat.{ℕ, zero, suc, _+_, _*_, _/_, max}
+use lib.Dec.{eqb}
 use lib.ListN.{length, take, drop}
 use Rattle.paper.specs.Sizes.{unless}
 use Rattle.paper.specs.Lists.{joined, parts}
 use Rattle.paper.specs.Bits.{packed}
-use Rattle.paper.specs.Block.{edition, blockBytes, payloadStart, payloadBytes, payloadBits, header, sealed, labelOf, numberOf, countOf, payloadOf, sameBytes, blockRefusal}
+use Rattle.paper.specs.Block.{Origin, blockBytes, startOf, payloadBytes, payloadBits, header, named, sealed, editionOf, labelOf, numberOf, countOf, namedOf, payloadOf, sameBytes, blockRefusal}
 
 -- ---- writing
--- a record of b bits has max(1, ceil(b / payload bits)) blocks; in edition 1 the payload has 3,936 bits
+-- a record of b bits has max(1, ceil(b / payload bits)) blocks; the payload has 3,936 bits in edition 1, 3,904 in edition 2
 abbrev pub blocksOf : ℕ → ℕ → ℕ
 blocksOf start b = max 1 (parts b (payloadBits start))
 
-abbrev pub blocksFor : ℕ → ℕ
-blocksFor b = blocksOf payloadStart b
+abbrev pub blocksFor : ℕ → ℕ → ℕ
+blocksFor e b = blocksOf (startOf e) b
 
 -- the bits that block i holds: all blocks are full but possibly the last
 abbrev pub bitsOfBlock : ℕ → List Bool → ℕ → List Bool
 bitsOfBlock start l i = take (payloadBits start) (drop (payloadBits start * i) l)
 
--- block i of the record of the bits l; `extra` stands between the header and the payload: nothing in edition 1
-unfoldable pub blockOf : ℕ → List ℕ → ℕ → ℕ → ℕ → List ℕ → List Bool → ℕ → List ℕ
-blockOf start extra k L n label l i =
-    sealed
-    (header edition k L n label i (length (bitsOfBlock start l i)) ++ (extra ++ packed (payloadBytes start) (bitsOfBlock start l i)))
+-- header, arm and mount, payload and checks
+unfoldable pub madeBlock : Origin → ℕ → ℕ → ℕ → List ℕ → ℕ → ℕ → List ℕ → List ℕ
+madeBlock o k L n label number count payload = sealed (header (o .edition) k L n label number count ++ (named o ++ payload))
 
-unfoldable pub recordOf : ℕ → List ℕ → ℕ → ℕ → ℕ → List ℕ → List Bool → List ℕ
-recordOf start extra k L n label l = joined (blocksOf start (length l)) (blockOf start extra k L n label l)
+-- block i of the record of the bits l
+unfoldable pub blockOf : Origin → ℕ → ℕ → ℕ → List ℕ → List Bool → ℕ → List ℕ
+blockOf o k L n label l i =
+    let start = startOf (o .edition) in
+    madeBlock o k L n label i (length (bitsOfBlock start l i)) (packed (payloadBytes start) (bitsOfBlock start l i))
+
+unfoldable pub recordOf : Origin → ℕ → ℕ → ℕ → List ℕ → List Bool → List ℕ
+recordOf o k L n label l = joined (blocksFor (o .edition) (length l)) (blockOf o k L n label l)
 
 -- ---- reading
 -- whole blocks from the front; a tail under 512 bytes is ignored
@@ -39,42 +43,47 @@ wholeBlocks s = length s / blockBytes
 abbrev pub blockAt : List ℕ → ℕ → List ℕ
 blockAt s i = take blockBytes (drop (blockBytes * i) s)
 
--- what block 0 said, in which the blocks of a record agree: its bytes 0 to 11
-abbrev pub said : List ℕ → List ℕ
-said block = take 12 block
+-- what block 0 said, in which the blocks of a record agree: its bytes 0 to 11, and what names arm and mount
+unfoldable pub said : List ℕ → List ℕ
+said block = take 12 block ++ namedOf block
 
--- a block in its turn i: numbered so, with bytes 0 to 11 as block 0 said and the label expected
+-- a block in its turn i: numbered so, as block 0 said, and with the label expected
 unfoldable pub inTurn : List ℕ → List ℕ → ℕ → List ℕ → Bool
 inTurn first label i block = eqb (numberOf block) i && sameBytes (said block) first && sameBytes (labelOf block) label
 
 -- why a block can't be kept in its turn: its own refusal (8 or 9; 6 if it is no block) before 10; 0 if it can
-unfoldable pub turnRefusal : ℕ → List ℕ → List ℕ → ℕ → List ℕ → ℕ
-turnRefusal start first label i block =
-    unless (blockRefusal start block) (eqb (blockRefusal start block) 0)
-    (unless 10 (inTurn first label i block) 0)
+abbrev pub turnRow : ℕ → Bool → ℕ
+turnRow own here = unless own (eqb own 0) (unless 10 here 0)
+
+unfoldable pub turnRefusal : List ℕ → List ℕ → ℕ → List ℕ → ℕ
+turnRefusal first label i block = turnRow (blockRefusal block) (inTurn first label i block)
 
 abbrev pub isFull : ℕ → List ℕ → Bool
 isFull start block = eqb (countOf block) (payloadBits start)
 
 -- block i of s in its turn
-abbrev pub refusalAt : ℕ → List ℕ → List ℕ → ℕ → ℕ
-refusalAt start s label i = turnRefusal start (said (blockAt s 0)) label i (blockAt s i)
+abbrev pub refusalAt : List ℕ → List ℕ → ℕ → ℕ
+refusalAt s label i = turnRefusal (said (blockAt s 0)) label i (blockAt s i)
 
 -- the blocks kept, and the number of the block that ended the run: 0 if none or if a short block ended it
 pub record Run : Type 0 where
   pub kept : ℕ
   pub ended : ℕ
 
--- the longest run, from block i on, where `left` whole blocks are left
-unfoldable pub runFrom : ℕ → List ℕ → List ℕ → ℕ → ℕ → Run
-runFrom start s label zero i = record { kept = i; ended = 0 }
-runFrom start s label (suc left) i = elim (refusalAt start s label i) [
-  | zero ↦ elim (isFull start (blockAt s i)) [ true ↦ runFrom start s label left (suc i) | false ↦ record { kept = suc i; ended = 0 } ]
+-- the longest run, from block i on, where `left` whole blocks are left and `refusal` judges each in its turn
+unfoldable pub runFrom : ℕ → (ℕ → ℕ) → List ℕ → ℕ → ℕ → Run
+runFrom start refusal s zero i = record { kept = i; ended = 0 }
+runFrom start refusal s (suc left) i = elim (refusal i) [
+  | zero ↦ elim (isFull start (blockAt s i)) [ true ↦ runFrom start refusal s left (suc i) | false ↦ record { kept = suc i; ended = 0 } ]
   | suc r ↦ record { kept = i; ended = suc r }
 ]
 
-abbrev pub runOf : ℕ → List ℕ → List ℕ → Run
-runOf start s label = runFrom start s label (wholeBlocks s) 0
+-- the payload of all blocks kept starts where the edition of block 0 says
+abbrev pub startIn : List ℕ → ℕ
+startIn s = startOf (editionOf s)
+
+abbrev pub runOf : List ℕ → List ℕ → Run
+runOf s label = runFrom (startIn s) (refusalAt s label) s (wholeBlocks s) 0
 
 -- the bits that `kept` blocks hold: all are full but possibly the last
 unfoldable pub bitsKept : ℕ → List ℕ → ℕ → ℕ

@@ -11,7 +11,7 @@ use lib.Seq.{drop-cons}
 use borrow.Author.Tests.{leb-true, lt-leb, le-leb}
 use Rattle.paper.specs.Lists.{pick}
 use Rattle.pgm.specs.declared.Number.{Number}
-use Rattle.pgm.specs.Header.{isLineEnd, isDigit, isPassed, isInside, pastSpace, pastLine, withDigit, numberFrom}
+use Rattle.pgm.specs.Header.{isLineEnd, isDigit, isPassed, isInside, pastSpace, pastLine, mostNumber, withDigit, numberFrom}
 
 -- for a loop of any kind: what it does with the byte at i
 next : {A : Type 0} (f : ℕ → List ℕ → A) (s : List ℕ) (i : ℕ) → i < length s → f i (drop i s) ≡ f i (getD s i 0 ∷ drop (suc i) s)
@@ -71,6 +71,6 @@ digit-low c e = go (leb 48 c) refl
     go true h = leb-true 48 c h
     go false h = absurd (let z : _≡_ {A = Bool} false true = rw h at e in let y : _≡_ {A = ℕ} 0 1 = cc in omega arith)
 
-pub small : (value c : ℕ) → withDigit value c ≤ 999999
+pub small : (value c : ℕ) → withDigit value c ≤ mostNumber
 unfolding withDigit
 small value c = omega arith

@@ -1,10 +1,10 @@
--- A few headers, read by computing what the definitions say.
+-- A few headers and a number, read by computing what the definitions say.
 use mathlib.Core.Path.{_≡_, refl}
 use mathlib.Core.Bool.{true}
 use Prim.Native.Nat.{ℕ}
 use Rattle.pgm.specs.declared.Header.{Header}
 use Rattle.pgm.specs.Ascii.{ascii}
-use Rattle.pgm.specs.Header.{isSpace, isLineEnd, isDigit, isPassed, isInside, pastSpace, pastLine, withDigit, numberFrom, fieldAt, rasterAt, pastMagic, noHeader, headerOf}
+use Rattle.pgm.specs.Header.{isSpace, isLineEnd, isDigit, isPassed, isInside, pastSpace, pastLine, withDigit, numberFrom, wholeNumber, fieldAt, rasterAt, pastMagic, noHeader, headerOf}
 
 abbrev headed : ℕ → ℕ → ℕ → ℕ → Header
 headed width height most start = record { right = true; width = width; height = height; most = most; start = start }
@@ -16,8 +16,8 @@ pub record Read : Type 0 where
   lastComment : headerOf (ascii "P5 8 8 255#x\n") ≡ headed 8 8 255 13
   -- the second line end is the raster's first byte
   oneSpace : headerOf (ascii "P5 8 8 255\n\n") ≡ headed 8 8 255 11
-  -- a number that is too large for any buffer
-  large : headerOf (ascii "P5 1234567 8 255 ") ≡ headed 999999 8 255 17
+  -- a number that is too large to be told from others
+  large : headerOf (ascii "P5 1234567890 8 255 ") ≡ headed 99999999 8 255 20
   -- no white space behind the magic number
   joined : headerOf (ascii "P58 8 255 ") ≡ noHeader
   -- a comment with no line end
@@ -28,7 +28,9 @@ pub record Read : Type 0 where
   short : headerOf (ascii "P5 8 8 ") ≡ noHeader
   -- a plain PGM
   plain : headerOf (ascii "P2 8 8 255 ") ≡ noHeader
+  -- the largest mount number
+  mount : wholeNumber (ascii "16777215") ≡ record { value = 16777215; next = 8 }
 
 pub read : Read
-unfolding isSpace isLineEnd isDigit isPassed isInside pastSpace pastLine withDigit numberFrom fieldAt rasterAt pastMagic headerOf
-read = record { comments = refl; lastComment = refl; oneSpace = refl; large = refl; joined = refl; unended = refl; cut = refl; short = refl; plain = refl }
+unfolding isSpace isLineEnd isDigit isPassed isInside pastSpace pastLine withDigit numberFrom wholeNumber fieldAt rasterAt pastMagic headerOf
+read = record { comments = refl; lastComment = refl; oneSpace = refl; large = refl; joined = refl; unended = refl; cut = refl; short = refl; plain = refl; mount = refl }

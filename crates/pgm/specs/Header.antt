@@ -44,9 +44,13 @@ unfoldable pub pastLine : ℕ → List ℕ → ℕ
 pastLine at [] = 0
 pastLine at (c ∷ s) = pick (isLineEnd c) (suc at) (pastLine (suc at) s)
 
--- a number with one digit more; from 999,999 on all numbers are taken for 999,999
+-- the largest number; all beyond it are taken for it
+abbrev pub mostNumber : ℕ
+mostNumber = 99999999
+
+-- a number with one digit more
 unfoldable pub withDigit : ℕ → ℕ → ℕ
-withDigit value c = min 999999 (10 * value + (c - 48))
+withDigit value c = min mostNumber (10 * value + (c - 48))
 
 -- the digits at the front of s, and the place behind them
 unfoldable pub numberFrom : ℕ → ℕ → List ℕ → Number
@@ -56,7 +60,7 @@ numberFrom value at (c ∷ s) = pick (isDigit c) (numberFrom (withDigit value c)
 abbrev pub missing : Number
 missing = record { value = 0; next = 0 }
 
--- a text that is digits and nothing else; up to 999,999
+-- a text that is digits and nothing else
 unfoldable pub wholeNumber : List ℕ → Number
 wholeNumber s = pick (eqb (numberFrom 0 0 s .next) (length s)) (numberFrom 0 0 s) missing
 

@@ -3,7 +3,10 @@ ghost use mathlib.Core.Path.{_≡_};
 ghost use mathlib.Core.Bool.{true, false};
 ghost use Prim.Native.Nat.{_+_, _≤_};
 ghost use lib.ListN.{drop};
-ghost use Rattle.pgm.specs.Header.{isSpace, isLineEnd, isDigit, isPassed, isInside, pastSpace, pastLine, withDigit, numberFrom, wholeNumber, fieldAt, rasterAt, pastMagic, headerOf};
+ghost use Rattle.pgm.specs.Header.{isSpace, isLineEnd, isDigit, isPassed, isInside, pastSpace, pastLine, mostNumber, withDigit, numberFrom, wholeNumber, fieldAt, rasterAt, pastMagic, headerOf};
+
+// The largest number that is told from others, so that no string of digits overflows; all beyond it are taken for it.
+pub const MOST_NUMBER: u32 = 99999999;
 
 // A number of the header, and the place behind it: 0 if the number is missing.
 pub struct Number {
@@ -104,14 +107,18 @@ fn past_line(bytes: &[u8], at: usize) -> usize
     0
 }
 
-// One digit more. It stops at 999,999, so that no string of digits overflows.
+// One digit more.
 fn with_digit(value: u32, c: u8) -> u32
-    requires { ⌜ value ≤ 999999 ⌝ }
+    requires { ⌜ value ≤ mostNumber ⌝ }
     requires { ⌜ isDigit c ≡ true ⌝ }
     ensures { λ r. ⌜ r ≡ withDigit value c ⌝ }
 {
     let more = 10 * value + (c - b'0') as u32;
-    if more < 999999 { more } else { 999999 }
+    if more < MOST_NUMBER {
+        more
+    } else {
+        MOST_NUMBER
+    }
 }
 
 // The digits from `at` on.

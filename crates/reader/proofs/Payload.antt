@@ -2,13 +2,14 @@
 use mathlib.Core.Path.{_≡_, sym, ap, _∙_}
 use mathlib.Core.List.{List, _++_}
 use Prim.Native.Nat.{ℕ, suc, _+_, _*_, _-_, _/_, _<_, _≤_}
-use native.Mathlib.Nat.{mul-assoc, mul-suc}
+use native.Mathlib.Nat.{mul-assoc, mul-suc, mul-le-mul, mul-le-mul-left}
 use native.Mathlib.Omega.{arith}
 use lib.ListN.{length, take, drop, length-append, length-take, length-drop}
 use lib.Seq.{take-all, take-append-add, length-take-le}
 use Rattle.paper.specs.Lists.{joined, over}
-use Rattle.paper.specs.Block.{blockBytes, payloadBytes, payloadBits, payloadOf}
+use Rattle.paper.specs.Block.{blockBytes, headerBytes, payloadBytes, payloadBits, payloadOf}
 use Rattle.paper.specs.Record.{wholeBlocks, blockAt, bitsKept, payloadKept}
+use Rattle.paper.specs.Jobs.{roomBytes}
 use Rattle.list_laws.specs.Over.{over-whole, laid-behind}
 use Rattle.list_laws.specs.Joined.{Even, length-joined, one-joined}
 use Rattle.list_laws.specs.Parts.{behind-part}
@@ -16,6 +17,17 @@ use Rattle.list_laws.specs.Parts.{behind-part}
 pub payload-length : (start : ℕ) (s : List ℕ) (i : ℕ) → blockBytes * i + blockBytes ≤ length s → length (payloadOf start (blockAt s i)) ≡ payloadBytes start
 unfolding payloadOf
 payload-length start s i h = simp (length-take, length-drop) (omega arith)
+
+-- ---- where payloads lie in the room: close enough that 492 bytes a block hold them
+module _ (start : ℕ) where
+  pub place-small : headerBytes ≤ start → (i : ℕ) → payloadBytes start * i ≤ roomBytes * i
+  place-small least i = mul-le-mul {m₂ = i} (omega arith) (omega arith)
+
+  pub place-fits : (i full room : ℕ) → i < full → payloadBytes start * full ≤ room → payloadBytes start * i + payloadBytes start ≤ room
+  place-fits i full room h g = omega (arith, mul-suc (payloadBytes start) i, mul-le-mul-left {m = suc i} {n = full} (payloadBytes start) h)
+
+  pub bits-small : headerBytes ≤ start → (i : ℕ) → payloadBits start * i ≤ payloadBits headerBytes * i
+  bits-small least i = mul-le-mul {m₂ = i} (omega arith) (omega arith)
 
 -- the used bytes of block i over their place
 module _ (start : ℕ) (s room last : List ℕ) (i n : ℕ) where

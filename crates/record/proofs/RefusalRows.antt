@@ -11,9 +11,9 @@ row-refused r later e = ap (λ b. unless r b later) (sym e)
 pub row-left : (r later : ℕ) {b : Bool} → b ≡ true → later ≡ unless r b later
 row-left r later e = ap (λ b. unless r b later) (sym e)
 
--- rows 6 and 7, from what their conditions are
-pub rows-judged : {r : ℕ} {a b c d : Bool} → r ≡ unless 6 a (unless 7 b 0) → a ≡ c → b ≡ d → r ≡ unless 6 c (unless 7 d 0)
-rows-judged e f g = e ∙ (λ t. unless 6 (f t) (unless 7 (g t) 0))
+-- rows 6 and 7, from what their conditions are, and what the later rows say
+pub rows-judged : {r later said : ℕ} {a b c d : Bool} → r ≡ unless 6 a (unless 7 b later) → a ≡ c → b ≡ d → later ≡ said → r ≡ unless 6 c (unless 7 d said)
+rows-judged e f g h = e ∙ (λ t. unless 6 (f t) (unless 7 (g t) (h t)))
 
 -- two rows of which the first has two conditions, before whatever the later rows say
 pub rows-leave : (r q : ℕ) (a b : Bool) (later : ℕ) → unless (suc r) a (unless (suc q) b 0) ≡ 0 → unless (suc r) a (unless (suc q) b later) ≡ later

@@ -2,6 +2,7 @@
 use mathlib.Core.Path.{_≡_}
 use Prim.Native.Nat.{ℕ, zero, suc, _+_, _*_, _-_, _<_, _≤_, min, max}
 use native.Mathlib.Nat.{mul-suc, mul-zero, mul-assoc, mul-le-mul-left, lt-of-mul-lt-mul-left, div-add-mod, mod-lt, le-max-right}
+use native.Mathlib.Decide.{decLe}
 use native.Mathlib.Omega.{arith}
 use Rattle.paper.specs.Lists.{parts}
 
@@ -19,6 +20,9 @@ module _ (m b : ℕ) (some : 0 < m) where
   blocks-numbered most zero n h g = n
   blocks-numbered most (suc i) n h g =
       lt-of-mul-lt-mul-left m (omega (arith, mul-suc m (suc i), mul-le-mul-left {m = suc (suc i)} {n = parts b m} m (omega arith), div-add-mod (b + (m - 1)) m))
+
+  pub blocks-few : (most : ℕ) → 0 < most → b ≤ m * most → max 1 (parts b m) ≤ most
+  blocks-few most n h = elim (decLe (max 1 (parts b m)) most) [ yes k ↦ k | no k ↦ absurd (let z : most < most = blocks-numbered most most n h (omega arith) in omega arith) ]
 
   -- the bits of the first blocks, and those of one more
   pub bits-more : (i : ℕ) → i < max 1 (parts b m) → m * i + min m (b - m * i) ≡ min b (m * suc i)

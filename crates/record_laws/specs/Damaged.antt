@@ -5,18 +5,17 @@ use mathlib.Core.List.{List, _++_}
 use mathlib.Core.Logic.{_≢_}
 use Prim.Native.Nat.{ℕ, suc, _+_, _*_, _<_, _≤_}
 use native.Mathlib.Omega.{arith}
-use native.Mathlib.Decide.{decLt}
 use lib.ListN.{length, take, drop, set, length-append, length-take, length-drop, take-append-drop}
 use lib.Seq.{length-take-le, take-at, drop-at, take-append-le, drop-append-le, drop-drop, set-append-left, take-set-le, drop-set-add}
 use Rattle.paper.specs.Lists.{Bytes}
-use Rattle.paper.specs.Block.{blockBytes, byteAt, blockRefusal}
-use Rattle.paper.specs.Record.{wholeBlocks, blockAt, said, turnRefusal, refusalAt, isFull, runOf}
+use Rattle.paper.specs.Block.{blockBytes, startOf, byteAt, editionOf, blockRefusal}
+use Rattle.paper.specs.Record.{wholeBlocks, blockAt, said, inTurn, turnRefusal, refusalAt, isFull, startIn, runOf}
 use Rattle.list_laws.specs.Parts.{part-of-front}
 use Rattle.block.proofs.Blocks.{length-of-passed, checks-of-passed}
 use Rattle.check_laws.specs.Damage.{Passes, Caught, changed, exchanged}
 use Rattle.check_laws.specs.Caught.{one-byte-changed, two-bytes-changed, two-bytes-exchanged}
-use Rattle.record_laws.specs.Kept.{LastFull, run-longest}
-use Rattle.record_laws.specs.Turn.{block-bytes, block-kept}
+use Rattle.record_laws.specs.Kept.{run-longest, fails-not-kept, fails-ends}
+use Rattle.record_laws.specs.Turn.{own-number, edition-of-0, block-bytes, block-kept}
 use Rattle.record_laws.specs.Ended.{whole-block}
 
 -- ---- the words
@@ -25,21 +24,21 @@ abbrev pub withBlock : ℕ → List ℕ → List ℕ → List ℕ
 withBlock i block s = take (blockBytes * i) s ++ (block ++ drop (blockBytes * suc i) s)
 
 -- the run comes to block i: each before it can be kept in its turn, and is full
-pub record Reached (start : ℕ) (s label : List ℕ) (i : ℕ) : Type 0 where
-  pub passes : (j : ℕ) → j < i → refusalAt start s label j ≡ 0
-  pub full : (j : ℕ) → j < i → isFull start (blockAt s j) ≡ true
+pub record Reached (s label : List ℕ) (i : ℕ) : Type 0 where
+  pub passes : (j : ℕ) → j < i → refusalAt s label j ≡ 0
+  pub full : (j : ℕ) → j < i → isFull (startIn s) (blockAt s j) ≡ true
 
 -- a block that was kept: the run came to it, and it passes
-module _ (start : ℕ) (s label : List ℕ) (i : ℕ) where
-  pub kept-reached : i < (runOf start s label) .kept → Reached start s label i
+module _ (s label : List ℕ) (i : ℕ) where
+  pub kept-reached : i < (runOf s label) .kept → Reached s label i
   kept-reached h =
-      let g = run-longest start s label (wholeBlocks s) 0 in
+      let g = run-longest (startIn s) (refusalAt s label) s (wholeBlocks s) 0 in
       record { passes = λ j k. g .passes j (omega arith) (omega arith); full = λ j k. g .full j (omega arith) (omega arith) }
 
-  pub kept-passes : Bytes s → i < (runOf start s label) .kept → Passes (blockAt s i)
+  pub kept-passes : Bytes s → i < (runOf s label) .kept → Passes (blockAt s i)
   kept-passes bytes h =
-      let own = block-kept start s label i (run-longest start s label (wholeBlocks s) 0 .passes i (omega arith) h) .passes in
-      record { long = length-of-passed start (blockAt s i) own; bytes = block-bytes s bytes i; right = checks-of-passed start (blockAt s i) own }
+      let own = block-kept s label i (run-longest (startIn s) (refusalAt s label) s (wholeBlocks s) 0 .passes i (omega arith) h) .passes in
+      record { long = length-of-passed (blockAt s i) own; bytes = block-bytes s bytes i; right = checks-of-passed (blockAt s i) own }
 
 -- ---- the record with that block
 module _ (s : List ℕ) (i : ℕ) (h : i < wholeBlocks s) where
@@ -77,60 +76,51 @@ module _ (s : List ℕ) (i : ℕ) (h : i < wholeBlocks s) where
 
 -- ---- the run
 -- where the first i blocks are the same, so are their refusals
-pub same-turn : (start : ℕ) (s t label : List ℕ) (i : ℕ) → ((j : ℕ) → j < i → blockAt t j ≡ blockAt s j) → (j : ℕ) → j < i → refusalAt start t label j ≡ refusalAt start s label j
-same-turn start s t label i same j h = λ z. turnRefusal start (said (same 0 (omega arith) z)) label j (same j h z)
+pub same-turn : (s t label : List ℕ) (i : ℕ) → ((j : ℕ) → j < i → blockAt t j ≡ blockAt s j) → (j : ℕ) → j < i → refusalAt t label j ≡ refusalAt s label j
+same-turn s t label i same j h = λ z. turnRefusal (said (same 0 (omega arith) z)) label j (same j h z)
 
--- its own refusal comes before its turn
-turn-8 : (start : ℕ) (first label : List ℕ) (i : ℕ) (block : List ℕ) → blockRefusal start block ≡ 8 → turnRefusal start first label i block ≡ 8
-unfolding turnRefusal
-turn-8 start first label i block bad = rw bad
+-- and so is the place where the payload starts
+pub same-start : (s t : List ℕ) (i : ℕ) → ((j : ℕ) → j < i → blockAt t j ≡ blockAt s j) → 0 < i → startIn t ≡ startIn s
+same-start s t i same some = ap startOf (sym (edition-of-0 t) ∙ ap editionOf (same 0 some) ∙ edition-of-0 s)
 
-module _ (s : List ℕ) (i : ℕ) (h : i < wholeBlocks s) (block : List ℕ) (caught : Caught block) (start : ℕ) (label : List ℕ) where
+module _ (s : List ℕ) (i : ℕ) (h : i < wholeBlocks s) (block : List ℕ) (caught : Caught block) (label : List ℕ) where
   abbrev new : List ℕ
   new = withBlock i block s
 
-  pub refused-there : refusalAt start new label i ≡ 8
-  refused-there = turn-8 start (said (blockAt new 0)) label i (blockAt new i) (ap (blockRefusal start) (block-there s i h block (caught .long)) ∙ caught .refused start)
+  pub refused-there : refusalAt new label i ≡ 8
+  unfolding turnRefusal
+  refused-there = own-number (blockRefusal (blockAt new i)) 7 (inTurn (said (blockAt new 0)) label i (blockAt new i)) (ap blockRefusal (block-there s i h block (caught .long)) ∙ caught .refused)
 
-  pub as-before : (j : ℕ) → j < i → refusalAt start new label j ≡ refusalAt start s label j
-  as-before = same-turn start s new label i (blocks-before s i h block (caught .long))
+  pub as-before : (j : ℕ) → j < i → refusalAt new label j ≡ refusalAt s label j
+  as-before = same-turn s new label i (blocks-before s i h block (caught .long))
 
   -- whatever the other blocks are, it is not kept
-  pub not-kept : (runOf start new label) .kept ≤ i
-  not-kept = elim (decLt i ((runOf start new label) .kept)) [
-    | yes k ↦ absurd (let z : _≡_ {A = ℕ} 8 0 = sym refused-there ∙ run-longest start new label (wholeBlocks new) 0 .passes i (omega arith) k in omega arith)
-    | no k ↦ omega arith
-  ]
+  pub not-kept : (runOf new label) .kept ≤ i
+  not-kept = fails-not-kept (startIn new) (refusalAt new label) new (wholeBlocks new) i 7 refused-there
 
   -- where the run comes to it, it ends the run as 8
-  pub ends-as-8 : Reached start s label i → runOf start new label ≡ record { kept = i; ended = 8 }
+  pub ends-as-8 : Reached s label i → runOf new label ≡ record { kept = i; ended = 8 }
   ends-as-8 r =
-      let g = run-longest start new label (wholeBlocks new) 0 in
-      let kept = (runOf start new label) .kept in
-      let left : kept < 0 + wholeBlocks new = omega (arith, not-kept, new-length s i h block (caught .long)) in
-      let full : LastFull start new 0 kept = λ j _ e. ap (isFull start) (blocks-before s i h block (caught .long) j (omega (arith, not-kept))) ∙ r .full j (omega (arith, not-kept)) in
-      let here : kept ≡ i = elim (decLt kept i) [
-        | yes m ↦ absurd (g .fails left full (sym (g .next left full) ∙ as-before kept m ∙ r .passes kept m))
-        | no m ↦ omega (arith, not-kept)
-      ] in
-      let eight = sym (g .next left full) ∙ ap (refusalAt start new label) here ∙ refused-there in
-      λ z. record { kept = here z; ended = eight z }
+      let before = blocks-before s i h block (caught .long) in
+      fails-ends (startIn new) (refusalAt new label) new (wholeBlocks new) i 7 (omega (arith, new-length s i h block (caught .long))) refused-there
+      (λ j k. as-before j k ∙ r .passes j k)
+      (λ j k. (λ z. isFull (same-start s new i before (omega arith) z) (before j k z)) ∙ r .full j k)
 
 -- ---- what the check catches, in block i of a record
-module _ (start : ℕ) (s label : List ℕ) (i : ℕ) (passes : Passes (blockAt s i)) (reached : Reached start s label i) where
+module _ (s label : List ℕ) (i : ℕ) (passes : Passes (blockAt s i)) (reached : Reached s label i) where
   within : i < wholeBlocks s
   within = omega (arith, passes .long, length-take blockBytes (drop (blockBytes * i) s), length-drop (blockBytes * i) s)
 
-  ends : (block : List ℕ) → Caught block → runOf start (withBlock i block s) label ≡ record { kept = i; ended = 8 }
-  ends block caught = ends-as-8 s i within block caught start label reached
+  ends : (block : List ℕ) → Caught block → runOf (withBlock i block s) label ≡ record { kept = i; ended = 8 }
+  ends block caught = ends-as-8 s i within block caught label reached
 
-  pub run-one-byte-changed : (j v : ℕ) → j < blockBytes → v < 256 → v ≢ byteAt (blockAt s i) j → runOf start (withBlock i (changed j v (blockAt s i)) s) label ≡ record { kept = i; ended = 8 }
+  pub run-one-byte-changed : (j v : ℕ) → j < blockBytes → v < 256 → v ≢ byteAt (blockAt s i) j → runOf (withBlock i (changed j v (blockAt s i)) s) label ≡ record { kept = i; ended = 8 }
   run-one-byte-changed j v h small other = ends _ (one-byte-changed (blockAt s i) passes j v h small other)
 
   pub run-two-bytes-changed : (j m v w : ℕ) → j < blockBytes → m < blockBytes → v < 256 → w < 256 → changed m w (changed j v (blockAt s i)) ≢ blockAt s i
-      → runOf start (withBlock i (changed m w (changed j v (blockAt s i))) s) label ≡ record { kept = i; ended = 8 }
+      → runOf (withBlock i (changed m w (changed j v (blockAt s i))) s) label ≡ record { kept = i; ended = 8 }
   run-two-bytes-changed j m v w h k small-v small-w other = ends _ (two-bytes-changed (blockAt s i) passes j m v w h k small-v small-w other)
 
   pub run-two-bytes-exchanged : (j m : ℕ) → j < blockBytes → m < blockBytes → byteAt (blockAt s i) j ≢ byteAt (blockAt s i) m
-      → runOf start (withBlock i (exchanged j m (blockAt s i)) s) label ≡ record { kept = i; ended = 8 }
+      → runOf (withBlock i (exchanged j m (blockAt s i)) s) label ≡ record { kept = i; ended = 8 }
   run-two-bytes-exchanged j m h k unequal = ends _ (two-bytes-exchanged (blockAt s i) passes j m h k unequal)

@@ -13,7 +13,8 @@ says said text = let line = said (on (replicate 320 0) 0) in take (line .at) (li
 pub record Lines : Type 0 where
   levels : says (refusedOf 2) "REFUSED: levels go from 1 to 5, and to 2, 3 or 4 at side 8, 16 or 32 (2)\n"
   label : says (refusedOf 7) "REFUSED: a label is eight characters, 0-9 or A-Z; leading zeros count (7)\n"
+  arm : says (refusedOf 9) "REFUSED: the arm is 1 or 2, and a mount number at most 16777215 (9)\n"
 
 pub lines : Lines
 unfolding decimal _puts_ meanings refusedOf
-lines = record { levels = refl; label = refl }
+lines = record { levels = refl; label = refl; arm = refl }

@@ -5,7 +5,7 @@ use lib.ListN.{getD}
 use Rattle.pgm.specs.Ascii.{ascii}
 use Rattle.words.specs.Line.{Line, _puts_, figure}
 
--- the refusals that concern no block, in the order of their numbers; 0 refuses nothing
+-- the refusals that concern no block, in the order of their numbers: 0 refuses nothing, and 8 is a block's alone
 unfoldable pub meanings : List (List ℕ)
 meanings =
     ascii ""
@@ -16,6 +16,8 @@ meanings =
     ∷ ascii "more than 18 planes"
     ∷ ascii "more bits than there is room for"
     ∷ ascii "a label is eight characters, 0-9 or A-Z; leading zeros count"
+    ∷ ascii ""
+    ∷ ascii "the arm is 1 or 2, and a mount number at most 16777215"
     ∷ []
 
 abbrev pub meaning : ℕ → List ℕ

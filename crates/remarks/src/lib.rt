@@ -25,6 +25,11 @@ fn put_meaning(number: u32, line: &mut [u8], at: usize) -> usize
             line,
             at,
         ),
+        9 => put(
+            b"the arm is 1 or 2, and a mount number at most 16777215",
+            line,
+            at,
+        ),
         _ => at,
     }
 }

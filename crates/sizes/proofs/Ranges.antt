@@ -1,12 +1,12 @@
 -- What it means that a size is in its range, and that a row of the refusal table does not apply.
 use mathlib.Core.Path.{_≡_, refl}
 use mathlib.Core.Bool.{Bool, true, false, _&&_}
-use Prim.Native.Nat.{ℕ, _-_, _^_, _<_, _≤_, min}
+use Prim.Native.Nat.{ℕ, _*_, _-_, _^_, _<_, _≤_, min}
 use native.Mathlib.Omega.{arith}
-use native.Mathlib.Nat.{pow-le-pow-right}
+use native.Mathlib.Nat.{mul-le-mul, pow-le-pow-right}
 use lib.Dec.{leb, ltb}
 use borrow.Author.Tests.{leb-true, le-leb, lt-leb, ltb-true, ltb-false}
-use Rattle.paper.specs.Sizes.{leastSize, mostSize, mostLevels, mostPlanes, sizeIn, levelsIn, planesIn}
+use Rattle.paper.specs.Sizes.{leastSize, mostSize, mostLevels, mostPlanes, sizeIn, levelsIn, planesIn, mostBits}
 
 -- ---- both of two tests
 pub both-first : (a b : Bool) → (a && b) ≡ true → a ≡ true
@@ -80,3 +80,11 @@ planes-few n e = leb-true n mostPlanes e
 pub planes-is : (n : ℕ) → leb n mostPlanes ≡ planesIn n
 unfolding planesIn
 planes-is n = refl
+
+-- ---- the most bits of a coding grow with side and planes
+pub most-bits-grow : (k n K N : ℕ) → k ≤ K → n ≤ N → mostBits k n ≤ mostBits K N
+unfolding mostBits
+most-bits-grow k n K N h g =
+    let area : 4 ^ k ≤ 4 ^ K = pow-le-pow-right {n = 4} (omega arith) {i = k} {j = K} h in
+    let tests : n * (4 * 4 ^ k - 1) ≤ N * (4 * 4 ^ K - 1) = mul-le-mul {m₂ = 4 * 4 ^ K - 1} g (omega arith) in
+    omega arith

@@ -60,3 +60,8 @@ refused-is (suc r) refused done h = refl
 
 pub done-is : {A : Type 0} (r : ℕ) (refused : ℕ → A) (done : A) → r ≡ 0 → judged r refused done ≡ done
 done-is r refused done e = rw e
+
+-- whatever it answers besides, a job gives the number by which it was judged
+pub refusal-is : {A : Type 0} (refusalOf : A → ℕ) (r : ℕ) (refused : ℕ → A) (done : A) → ((r : ℕ) → refusalOf (refused r) ≡ r) → refusalOf done ≡ 0 → refusalOf (judged r refused done) ≡ r
+refusal-is refusalOf zero refused done given none = none
+refusal-is refusalOf (suc r) refused done given none = given (suc r)

@@ -1,18 +1,20 @@
 -- The side of a square, what is said of a thumbnail alone, and when more blocks are expected, by what the code tests.
-use mathlib.Core.Path.{_≡_, refl}
+use mathlib.Core.Path.{_≡_, refl, ap, _∙_}
 use mathlib.Core.Bool.{Bool, true, false}
 use Prim.Native.Nat.{ℕ, _*_, _/_, _%_, _^_, _<_, _≤_}
 use native.Mathlib.Omega.{arith}
+use native.Mathlib.Nat.{div-eq-of-eq-mul-right, div-add-mod, mul-mod-right}
 use lib.Dec.{leb, eqb}
 use borrow.Author.Tests.{eq-eqb, ne-eqb, eqb-true, eqb-false, le-leb, lt-leb}
 use Rattle.paper.specs.Lists.{pick}
 use Rattle.paper.specs.Sizes.{mostSize}
-use Rattle.paper.specs.Block.{payloadStart, payloadBits}
+use Rattle.paper.specs.Block.{Origin, startOf, payloadBits}
 use mathlib.Core.List.{List, []}
+use Rattle.block.proofs.Editions.{start-most}
 use Rattle.pgm.specs.Ascii.{ascii}
-use Rattle.words.specs.Line.{on}
+use Rattle.words.specs.Line.{Line, on, _puts_, figure}
 use Rattle.words.proofs.Laws.{Inside, puts-inside}
-use Rattle.verdict.specs.Verdict.{sideOf, ofThumbnail, awaits, of255, promiseOf}
+use Rattle.verdict.specs.Verdict.{sideOf, ofThumbnail, colon, shotBy, awaits, of255, promiseOf}
 
 pub no-side : (k : ℕ) → mostSize < k → 0 ≡ sideOf k
 unfolding sideOf
@@ -36,24 +38,47 @@ module _ (r : ℕ) (text : List ℕ) where
   unfolding ofThumbnail
   thumbnail-said h = rw (ne-eqb r 0 h)
 
+-- arm and mount are named, or left out, and then the title ends
+module _ (r : ℕ) (o : Origin) (line last : Line) where
+  pub origin-unsaid : o .edition ≡ 1 → line puts ascii ": " ≡ last → shotBy r o line ≡ last
+  unfolding shotBy
+  origin-unsaid e h = rw (eq-eqb (o .edition) 1 e) h
+
+  pub origin-said : (o .edition ≡ 1 → ⊥) → (shot : Line) → line puts ascii ", arm " puts figure (o .arm) puts ascii ", mount " puts figure (o .mount) ≡ shot
+      → shot puts pick (eqb r 0) (ascii ": ") (ascii ":\n  ") ≡ last → shotBy r o line ≡ last
+  unfolding shotBy colon
+  origin-said e shot s h = rw (ne-eqb (o .edition) 1 e, s) h
+
+-- a block has room for bits, whatever its edition
+pub start-fits : (e start : ℕ) → start ≡ startOf e → start ≤ 20
+start-fits e start s = rw s (start-most e)
+
 -- the last block is full exactly if the bits fill all blocks
-module _ (blocks bits p : ℕ) where
-  pub awaits-none : eqb p 0 ≡ true → false ≡ awaits blocks bits p
+module _ (e blocks bits p : ℕ) where
+  pub awaits-none : eqb p 0 ≡ true → false ≡ awaits e blocks bits p
   unfolding awaits
-  awaits-none e = rw e
+  awaits-none u = rw u
 
-  module _ (u : eqb p 0 ≡ false) where
-    pub awaits-not : (bits / payloadBits payloadStart ≡ blocks → ⊥) → false ≡ awaits blocks bits p
-    unfolding awaits
-    awaits-not h = rw (u, ne-eqb bits (payloadBits payloadStart * blocks) (λ e. h (omega (arith, e))))
+  module _ (u : eqb p 0 ≡ false) (start : ℕ) (s : start ≡ startOf e) where
+    abbrev full : ℕ
+    full = payloadBits start
 
-    pub awaits-full : bits / payloadBits payloadStart ≡ blocks → eqb (bits % payloadBits payloadStart) 0 ≡ awaits blocks bits p
+    full-some : 0 < full
+    full-some = omega (arith, start-fits e start s)
+
+    pub awaits-not : (bits / full ≡ blocks → ⊥) → false ≡ awaits e blocks bits p
     unfolding awaits
-    awaits-full h = rw u (go (eqb (bits % payloadBits payloadStart) 0) refl)
+    awaits-not h = rw (u, ← s, ne-eqb bits (full * blocks) (λ filled. h (div-eq-of-eq-mul-right full-some filled)))
+
+    pub awaits-full : bits / full ≡ blocks → eqb (bits % full) 0 ≡ awaits e blocks bits p
+    unfolding awaits
+    awaits-full h = rw (u, ← s) (go (eqb (bits % full) 0) refl)
       where
-        go : (t : Bool) → eqb (bits % payloadBits payloadStart) 0 ≡ t → eqb (bits % payloadBits payloadStart) 0 ≡ eqb bits (payloadBits payloadStart * blocks)
-        go true e = rw (e, eq-eqb bits (payloadBits payloadStart * blocks) (omega (arith, h, eqb-true (bits % payloadBits payloadStart) 0 e)))
-        go false e = rw (e, ne-eqb bits (payloadBits payloadStart * blocks) (λ f. eqb-false (bits % payloadBits payloadStart) 0 e (omega (arith, f))))
+        go : (t : Bool) → eqb (bits % full) 0 ≡ t → eqb (bits % full) 0 ≡ eqb bits (full * blocks)
+        go true t =
+            let filled : bits ≡ full * (bits / full) = omega (arith, div-add-mod bits full, eqb-true (bits % full) 0 t) in
+            rw (t, eq-eqb bits (full * blocks) (filled ∙ ap (λ (b : ℕ). full * b) h))
+        go false t = rw (t, ne-eqb bits (full * blocks) (λ filled. eqb-false (bits % full) 0 t (rw filled (mul-mod-right full blocks))))
 
 pub of255-is : (blocks : ℕ) → of255 blocks ≡ pick (leb blocks 1) (ascii " of 255") (ascii " of 255, if of one shot")
 unfolding of255

@@ -6,7 +6,7 @@ use Prim.Native.Nat.{ℕ, _*_, _-_, _^_}
 use lib.Dec.{leb, eqb}
 use Rattle.paper.specs.Lists.{pick}
 use Rattle.paper.specs.Sizes.{mostSize, greyLimit}
-use Rattle.paper.specs.Block.{payloadStart, payloadBits}
+use Rattle.paper.specs.Block.{Origin, unnamed, startOf, payloadBits}
 use Rattle.pgm.specs.Ascii.{ascii}
 use Rattle.words.specs.Line.{Line, _puts_, figure}
 
@@ -29,9 +29,19 @@ titled label k r p line =
     line puts word p puts ascii " " puts label puts ofThumbnail r (ascii ", thumbnail") puts ascii ", side " puts figure (sideOf (k - r))
     puts ofThumbnail r (ascii " of ") puts ofThumbnail r (figure (sideOf k))
 
+-- behind a thumbnail's title, which is long, a new line begins
+unfoldable pub colon : ℕ → List ℕ
+colon r = pick (eqb r 0) (ascii ": ") (ascii ":\n  ")
+
+-- ": ", and in edition 2 ", arm 1, mount 70123: "
+unfoldable pub shotBy : ℕ → Origin → Line → Line
+shotBy r o line =
+    pick (unnamed (o .edition)) (line puts ascii ": ")
+    (line puts ascii ", arm " puts figure (o .arm) puts ascii ", mount " puts figure (o .mount) puts colon r)
+
 -- more blocks were expected: planes are unfinished, and the last block kept is full, as only the last of a record need not be
-unfoldable pub awaits : ℕ → ℕ → ℕ → Bool
-awaits blocks bits p = not (eqb p 0) && eqb bits (payloadBits payloadStart * blocks)
+unfoldable pub awaits : ℕ → ℕ → ℕ → ℕ → Bool
+awaits e blocks bits p = not (eqb p 0) && eqb bits (payloadBits (startOf e) * blocks)
 
 unfoldable pub plural : ℕ → List ℕ
 plural blocks = pick (eqb blocks 1) (ascii " block, ") (ascii " blocks, ")
@@ -39,12 +49,11 @@ plural blocks = pick (eqb blocks 1) (ascii " block, ") (ascii " blocks, ")
 unfoldable pub expected : Bool → List ℕ
 expected more = pick more (ascii "more expected\n") (ascii "no more expected\n")
 
--- ": 3 blocks, more expected"
-unfoldable pub counted : ℕ → ℕ → ℕ → Line → Line
-counted blocks bits p line =
-    line puts ascii ": " puts figure blocks puts plural blocks puts expected (awaits blocks bits p)
+-- "3 blocks, more expected"
+unfoldable pub counted : ℕ → ℕ → ℕ → ℕ → Line → Line
+counted e blocks bits p line = line puts figure blocks puts plural blocks puts expected (awaits e blocks bits p)
 
--- the promises are about one coding; that several blocks are of one shot is not seen in edition 1
+-- the promises are about one coding: blocks of two shots are not seen in edition 1, nor in edition 2 if arm and mount agree
 unfoldable pub oneShot : ℕ → List ℕ
 oneShot blocks = pick (leb blocks 1) (ascii "\n") (ascii ", if its blocks are of one shot\n")
 
@@ -65,9 +74,9 @@ planes L n p bits line =
     puts ascii ", levels: " puts figure L puts ascii ", bits: " puts figure bits puts ascii "\n"
 
 -- all of it, and at the end what ended the run
-unfoldable pub reportOf : List ℕ → ℕ → ℕ → ℕ → ℕ → ℕ → ℕ → ℕ → List ℕ → Line → Line
-reportOf label k L r n blocks bits p ended line =
-    planes L n p bits (worth L r p blocks (counted blocks bits p (titled label k r p line))) puts ended
+unfoldable pub reportOf : List ℕ → ℕ → ℕ → ℕ → Origin → ℕ → ℕ → ℕ → ℕ → List ℕ → Line → Line
+reportOf label k L r o n blocks bits p ended line =
+    planes L n p bits (worth L r p blocks (counted (o .edition) blocks bits p (shotBy r o (titled label k r p line)))) puts ended
 
 -- ---- the promise that travels with the picture, or the thumbnail of a picture of side 2 ^ k
 unfoldable pub of255 : ℕ → List ℕ

@@ -7,12 +7,14 @@ ghost use lib.Dec.{eqb};
 ghost use lib.ListN.{length};
 ghost use Rattle.paper.specs.Sizes.{greyLimit};
 ghost use Rattle.words.specs.Line.{on, _puts_, figure};
-ghost use Rattle.verdict.specs.Verdict.{word, sideOf, ofThumbnail, titled, awaits, plural, expected, counted, oneShot, kind, worth, planes, reportOf, of255, promiseOf};
-use block::PAYLOAD_BITS;
+ghost use Rattle.verdict.specs.Verdict.{word, sideOf, ofThumbnail, titled, shotBy, awaits, plural, expected, counted, oneShot, kind, worth, planes, reportOf, of255, promiseOf};
+use block::CHECKS;
 use sizes::less;
 use words::put;
 use words::put_either;
 use words::put_figure;
+use words::put_figures;
+use words::put_number;
 
 // Only a picture with no unfinished plane is whole.
 fn is_whole(unfinished: u32) -> bool
@@ -60,26 +62,52 @@ fn put_title(label: &[u8], k: u32, halvings: u32, unfinished: u32, line: &mut [u
     put_of_side(b" of ", k, halvings, line, shown)
 }
 
+// The arm and its mount number, which edition 1 does not name, and the end of the title.
+fn put_origin(
+    halvings: u32,
+    edition: u32,
+    arm: u32,
+    mount: u32,
+    line: &mut [u8],
+    at: usize,
+) -> usize
+    ensures { λ r. ⌜ shotBy halvings (record { edition = edition; arm = arm; mount = mount }) (on (now (line .entry)) at) ≡ on (now (line .exit)) r ⌝ }
+{
+    if edition == 1 {
+        return put(b": ", line, at);
+    }
+    let shot = put_figures(b", arm ", arm as u64, b", mount ", mount as u64, line, at);
+    put_either(halvings == 0, b": ", b":\n  ", line, shot)
+}
+
 // Whether more blocks were expected.
-fn awaits_more(blocks: usize, bits: usize, unfinished: u32) -> bool
-    ensures { λ r. ⌜ r ≡ awaits blocks bits unfinished ⌝ }
+fn awaits_more(edition: u32, blocks: usize, bits: usize, unfinished: u32) -> bool
+    ensures { λ r. ⌜ r ≡ awaits edition blocks bits unfinished ⌝ }
 {
     if is_whole(unfinished) {
         return false;
     }
-    if bits / PAYLOAD_BITS != blocks {
+    let full = 8 * (CHECKS - block::payload_start(edition));
+    if bits / full != blocks {
         return false;
     }
-    bits % PAYLOAD_BITS == 0
+    bits % full == 0
 }
 
 // The blocks that were kept, and whether more were expected.
-fn put_blocks(blocks: usize, bits: usize, unfinished: u32, line: &mut [u8], at: usize) -> usize
-    ensures { λ r. ⌜ counted blocks bits unfinished (on (now (line .entry)) at) ≡ on (now (line .exit)) r ⌝ }
+fn put_blocks(
+    edition: u32,
+    blocks: usize,
+    bits: usize,
+    unfinished: u32,
+    line: &mut [u8],
+    at: usize,
+) -> usize
+    ensures { λ r. ⌜ counted edition blocks bits unfinished (on (now (line .entry)) at) ≡ on (now (line .exit)) r ⌝ }
 {
-    let number = put_figure(b": ", blocks as u64, line, at);
+    let number = put_number(blocks as u64, line, at);
     let counted = put_either(blocks == 1, b" block, ", b" blocks, ", line, number);
-    let more = awaits_more(blocks, bits, unfinished);
+    let more = awaits_more(edition, blocks, bits, unfinished);
     put_either(
         more,
         b"more expected\n",
@@ -156,10 +184,23 @@ fn put_planes(
 ) -> usize
     ensures { λ r. ⌜ planes levels n unfinished bits (on (now (line .entry)) at) ≡ on (now (line .exit)) r ⌝ }
 {
-    let done = put_figure(b"  planes finished: ", less(n, unfinished) as u64, line, at);
-    let all = put_figure(b" of ", n as u64, line, done);
-    let depth = put_figure(b", levels: ", levels as u64, line, all);
-    let read = put_figure(b", bits: ", bits as u64, line, depth);
+    let finished = less(n, unfinished) as u64;
+    let done = put_figures(
+        b"  planes finished: ",
+        finished,
+        b" of ",
+        n as u64,
+        line,
+        at,
+    );
+    let read = put_figures(
+        b", levels: ",
+        levels as u64,
+        b", bits: ",
+        bits as u64,
+        line,
+        done,
+    );
     put(b"\n", line, read)
 }
 
@@ -169,6 +210,9 @@ pub fn report(
     k: u32,
     levels: u32,
     halvings: u32,
+    edition: u32,
+    arm: u32,
+    mount: u32,
     n: u32,
     blocks: usize,
     bits: usize,
@@ -176,10 +220,11 @@ pub fn report(
     ended: &[u8],
     line: &mut [u8],
 ) -> usize
-    ensures { λ r. ⌜ reportOf (now (label .entry)) k levels halvings n blocks bits unfinished (now (ended .entry)) (on (now (line .entry)) 0) ≡ on (now (line .exit)) r ⌝ }
+    ensures { λ r. ⌜ reportOf (now (label .entry)) k levels halvings (record { edition = edition; arm = arm; mount = mount }) n blocks bits unfinished (now (ended .entry)) (on (now (line .entry)) 0) ≡ on (now (line .exit)) r ⌝ }
 {
     let title = put_title(label, k, halvings, unfinished, line);
-    let counted = put_blocks(blocks, bits, unfinished, line, title);
+    let shot = put_origin(halvings, edition, arm, mount, line, title);
+    let counted = put_blocks(edition, blocks, bits, unfinished, line, shot);
     let told = put_worth(levels, halvings, unfinished, blocks, line, counted);
     let depth = put_planes(levels, n, unfinished, bits, line, told);
     put(ended, line, depth)

@@ -33,6 +33,21 @@ pub fn put_figure(text: &[u8], number: u64, line: &mut [u8], at: usize) -> usize
     put_number(number, line, next)
 }
 
+// Two texts, each with a number behind it.
+pub fn put_figures(
+    one: &[u8],
+    first: u64,
+    other: &[u8],
+    second: u64,
+    line: &mut [u8],
+    at: usize,
+) -> usize
+    ensures { λ r. ⌜ on (now (line .entry)) at puts now (one .entry) puts figure first puts now (other .entry) puts figure second ≡ on (now (line .exit)) r ⌝ }
+{
+    let next = put_figure(one, first, line, at);
+    put_figure(other, second, line, next)
+}
+
 // One of two texts.
 pub fn put_either(first: bool, one: &[u8], other: &[u8], line: &mut [u8], at: usize) -> usize
     ensures { λ r. ⌜ on (now (line .entry)) at puts pick first (now (one .entry)) (now (other .entry)) ≡ on (now (line .exit)) r ⌝ }

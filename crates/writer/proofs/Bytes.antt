@@ -2,15 +2,15 @@
 use mathlib.Core.Path.{_≡_, refl, sym, ap, _∙_}
 use mathlib.Core.Bool.{Bool, false}
 use mathlib.Core.List.{List, [], _∷_, _++_, append-assoc, append-nil}
-use Prim.Native.Nat.{ℕ, suc, _+_, _*_, _/_, _%_, _<_, _≤_}
+use Prim.Native.Nat.{ℕ, zero, suc, _+_, _*_, _-_, _/_, _%_, _<_, _≤_}
 use native.Mathlib.Numerals.{add-one}
-use native.Mathlib.Nat.{mul-assoc}
+use native.Mathlib.Nat.{mul-assoc, mul-le-mul}
 use native.Mathlib.Omega.{arith}
-use lib.ListN.{length, take, drop, getD, set}
+use lib.ListN.{length, take, drop, getD, set, replicate}
 use lib.Seq.{drop-drop, drop-cons, drop-length, set-at}
 use Rattle.paper.specs.Lists.{Bytes}
 use Rattle.paper.specs.Bits.{bits, byteOf, packed}
-use Rattle.paper.specs.Block.{payloadBytes, payloadBits}
+use Rattle.paper.specs.Block.{headerBytes, numberedBlocks, payloadBytes, payloadBits}
 use Rattle.paper.specs.Record.{bitsOfBlock}
 use Rattle.bits.specs.Bits.{kept, withBit}
 use Rattle.bits.proofs.Packing.{packed-length, packed-before, packed-seam, packed-after}
@@ -55,6 +55,16 @@ module _ (l : List Bool) (out old : List ℕ) (start i : ℕ) (e : out ≡ packe
 
   pub filled : i ≡ length old → out ≡ packed (length old) (drop (8 * start) l)
   filled h = e ∙ ap (λ a. packed a (drop (8 * start) l) ++ drop a old) h ∙ ap (λ r. packed (length old) (drop (8 * start) l) ++ r) (drop-length old) ∙ append-nil (packed (length old) (drop (8 * start) l))
+
+-- zeros behind what is written
+pub zeros-left : (n m : ℕ) → drop n (replicate {A = ℕ} m 0) ≡ replicate (m - n) 0
+zeros-left zero m = let e : m ≡ m - 0 = omega arith in ap (λ k. replicate k 0) e
+zeros-left (suc n) zero = let e : 0 ≡ 0 - suc n = omega arith in ap (λ k. replicate k 0) e
+zeros-left (suc n) (suc m) = let e : m - n ≡ suc m - suc n = omega arith in zeros-left n m ∙ ap (λ k. replicate k 0) e
+
+-- no place in a record is beyond what numbered blocks hold
+pub place-small : (size i : ℕ) → size ≤ payloadBits headerBytes → i < numberedBlocks → size * i ≤ payloadBits headerBytes * numberedBlocks
+place-small size i h g = mul-le-mul {m₂ = numberedBlocks} h (omega arith)
 
 -- the payload of block i
 pub payload-is : (start : ℕ) (l : List Bool) (i : ℕ) → packed (payloadBytes start) (drop (8 * (payloadBytes start * i)) l) ≡ packed (payloadBytes start) (bitsOfBlock start l i)

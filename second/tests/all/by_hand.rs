@@ -1,9 +1,11 @@
 //! The paper's table "Checked by hand", every row and sentence of it; then the
-//! case of label 0417AAL6, which characters a label may have, and thumbnails.
+//! case of label 0417AAL6, which characters a label may have, blocks of edition
+//! 2, and thumbnails.
 
 use crate::naive;
 use crate::steps::{self, sizes};
 use second::block;
+use second::edition::Origin;
 use second::jobs;
 use second::places::{RasterPlace, ZPlace};
 use second::record::Kept;
@@ -162,7 +164,7 @@ fn no_bits_with_18_planes_give_zeros_at_every_size() {
 #[test]
 fn one_block_whole() {
     let mut room = [0xEE; 513];
-    let blocks = jobs::record_writing(3, 2, 0, b"00000417", &[], 0, &mut room);
+    let blocks = jobs::record_writing(3, 2, 0, Origin::UNNAMED, b"00000417", &[], 0, &mut room);
     assert_eq!(blocks, Ok(1));
     let heading = [1, 3, 2, 0, 0x30, 0x30, 0x30, 0x30, 0x30, 0x34, 0x31, 0x37];
     assert_eq!(room[..12], heading);
@@ -182,20 +184,32 @@ fn block_of_p3(label: &[u8; 8]) -> [u8; 512] {
     block
 }
 
+fn write_p3_of(origin: Origin, label: &[u8], room: &mut [u8]) -> Result<u32, u32> {
+    let samples::Bits {
+        planes,
+        bytes,
+        count,
+    } = p3();
+    jobs::record_writing(3, 2, planes, origin, label, &bytes, count, room).map_err(Refusal::number)
+}
+
 fn write_p3(label: &[u8], room: &mut [u8]) -> Result<u32, u32> {
-    let bits = p3();
-    jobs::record_writing(3, 2, bits.planes, label, &bits.bytes, bits.count, room)
-        .map_err(Refusal::number)
+    write_p3_of(Origin::UNNAMED, label, room)
 }
 
 /// Nothing, if the block is read back as P3's; else the refusal.
 fn read_p3(block: &[u8], label: &[u8]) -> Result<(), u32> {
+    read_p3_of(Origin::UNNAMED, block, label)
+}
+
+fn read_p3_of(origin: Origin, block: &[u8], label: &[u8]) -> Result<(), u32> {
     let mut room = [0xEE; 492];
     let kept = jobs::record_reading(block, label, &mut room).map_err(Refusal::number)?;
     let whole = Kept {
         k: 3,
         levels: 2,
         planes: 3,
+        origin,
         blocks: 1,
         bits: 17,
         ended: 0,
@@ -219,6 +233,53 @@ fn one_block_of_0417aal6_whole_and_read_back() {
     assert_eq!(room[512], 0xEE);
     assert_eq!(jobs::block_check(&block), Ok(()));
     assert_eq!(read_p3(&block, &label), Ok(()));
+}
+
+/// The same block in edition 2, mounted by arm 1, mount number 70,123. A is
+/// 0x2B2 of edition 1, and 1 for the edition, 1 + 1 + 17 + 235 for arm and mount.
+/// B is 0x1E4F, and 1, and 4 times 192 + 8, since the payload stands 4 bytes
+/// later, and 17 + 18 + 19 * 17 + 20 * 235.
+#[test]
+fn the_same_block_in_edition_2() {
+    let origin = Origin {
+        edition: 2,
+        arm: 1,
+        mount: 70_123,
+    };
+    let mut block = [0; 512];
+    block[..4].copy_from_slice(&[2, 3, 2, 3]);
+    block[4..12].copy_from_slice(b"0417AAL6");
+    block[12..16].copy_from_slice(&[0x00, 0x00, 0x00, 0x11]);
+    block[16..20].copy_from_slice(&[0x01, 0x01, 0x11, 0xEB]);
+    block[20..23].copy_from_slice(&[0xC0, 0x08, 0x00]);
+    block[508..].copy_from_slice(&[0x03, 0xB1, 0x35, 0x32]);
+
+    let mut room = [0xEE; 513];
+    assert_eq!(write_p3_of(origin, b"0417AAL6", &mut room), Ok(1));
+    assert_eq!(room[..512], block);
+    assert_eq!(room[512], 0xEE);
+    assert_eq!(jobs::block_check(&block), Ok(()));
+    assert_eq!(read_p3_of(origin, &block, b"0417AAL6"), Ok(()));
+}
+
+/// P9's block in edition 2, with the largest mount number of arm 2. A is 0x192
+/// and 1 + 2 + 3 * 255; B is 0xD54 and 1 + 17 * 2 + (18 + 19 + 20) * 255.
+#[test]
+fn one_block_of_edition_2_without_bits() {
+    let origin = Origin {
+        edition: 2,
+        arm: 2,
+        mount: 16_777_215,
+    };
+    let mut room = [0xEE; 512];
+    let blocks = jobs::record_writing(3, 2, 0, origin, b"00000417", &[], 0, &mut room);
+    assert_eq!(blocks, Ok(1));
+    assert_eq!(room[..4], [2, 3, 2, 0]);
+    assert_eq!(room[4..12], *b"00000417");
+    assert_eq!(room[12..16], [0; 4]);
+    assert_eq!(room[16..20], [0x02, 0xFF, 0xFF, 0xFF]);
+    assert_eq!(room[20..508], [0; 488]);
+    assert_eq!(room[508..], [0x04, 0x92, 0x46, 0x3E]);
 }
 
 /// 0417AAL6 with each of these characters in each of its places, and P3's block

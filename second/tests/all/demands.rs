@@ -2,11 +2,12 @@
 
 use crate::naive;
 use crate::steps;
-use second::block::{LENGTH, PAYLOAD_LENGTH};
+use second::block::LENGTH;
+use second::edition::Edition;
 use second::jobs;
 use second::places::RasterPlace;
 use second::random::Random;
-use second::record;
+use second::record::{self, READER_ROOM};
 use second::samples::{self, Bits};
 use second::sizes::Sizes;
 
@@ -21,12 +22,15 @@ fn a_whole_record_gives_back_the_very_picture() {
             assert!(bits.count <= sizes.most_bits(bits.planes));
 
             let label = samples::label(&mut random);
-            let blocks = record::block_count(bits.count) as usize;
+            let edition = random.pick(&Edition::BOTH);
+            let origin = samples::origin(&mut random, edition);
+            let blocks = record::block_count(edition, bits.count) as usize;
             let mut record = vec![0xEE; blocks * LENGTH];
             let written = jobs::record_writing(
                 k,
                 levels,
                 bits.planes,
+                origin,
                 &label,
                 &bits.bytes,
                 bits.count,
@@ -34,11 +38,12 @@ fn a_whole_record_gives_back_the_very_picture() {
             );
             assert_eq!(written, Ok(blocks as u32));
 
-            let mut payload = vec![0xEE; blocks * PAYLOAD_LENGTH];
+            let mut payload = vec![0xEE; blocks * READER_ROOM];
             let kept = jobs::record_reading(&record, &label, &mut payload).unwrap();
             assert_eq!((kept.k, kept.levels, kept.planes), (k, levels, bits.planes));
             assert_eq!((kept.blocks, kept.bits), (blocks as u32, bits.count));
             assert_eq!(kept.ended, 0);
+            assert_eq!(kept.origin.edition, origin.edition);
 
             let read = Bits {
                 planes: kept.planes,

@@ -1,7 +1,9 @@
 //! All tests of the second program that go through its public face.
 
 mod by_hand;
+mod corners;
 mod demands;
+mod editions;
 mod formulations;
 mod naive;
 mod old_slip;

@@ -2,6 +2,7 @@
 //! program: mirrored lines in floating point, a coder and a decoder apart with
 //! a stack of steps, bits in lists, and refusals as lists of conditions.
 
+use second::edition::Origin;
 use second::transcript::{lent_bytes, lent_numbers, Answer, Field, Request};
 
 // --- Sizes and places ---
@@ -342,21 +343,36 @@ fn checks(block: &[u8]) -> [u8; 4] {
     [(a / 256) as u8, a as u8, (b / 256) as u8, b as u8]
 }
 
+/// Where an edition's payload starts, and the bits that it takes; none for an
+/// edition that there isn't.
+fn layout(edition: u32) -> Option<(usize, usize)> {
+    match edition {
+        1 => Some((16, 3_936)),
+        2 => Some((20, 3_904)),
+        _ => None,
+    }
+}
+
 /// The blocks of a record, built field after field.
-fn record(sizes: [u32; 3], label: &[u8], bits: &[bool]) -> Vec<u8> {
+fn record(sizes: [u32; 3], origin: Origin, label: &[u8], bits: &[bool]) -> Vec<u8> {
+    let (_, full) = layout(origin.edition).expect("a refused edition is not written");
     let no_bits: &[bool] = &[];
     let payloads: Vec<&[bool]> = if bits.is_empty() {
         vec![no_bits]
     } else {
-        bits.chunks(3_936).collect()
+        bits.chunks(full).collect()
     };
     let mut record = Vec::new();
     for (number, payload) in payloads.iter().enumerate() {
-        let mut block = vec![1];
+        let mut block = vec![origin.edition as u8];
         block.extend(sizes.map(|size| size as u8));
         block.extend(label);
         block.extend([(number / 256) as u8, number as u8]);
         block.extend([(payload.len() / 256) as u8, payload.len() as u8]);
+        if origin.edition == 2 {
+            block.push(origin.arm as u8);
+            block.extend([65_536, 256, 1].map(|unit| (origin.mount / unit) as u8));
+        }
         block.extend(bytes_of(payload));
         block.resize(508, 0);
         block.extend(checks(&block));
@@ -381,31 +397,52 @@ fn lowest(conditions: &[(u32, bool)]) -> u32 {
     given.map(|(number, _)| *number).min().unwrap_or(0)
 }
 
-/// The first number whose condition holds, or 0: where 13 comes before 3.
+/// The first number whose condition holds, or 0: where 13 comes before 3, and a
+/// 9 before 6.
 fn first(conditions: &[(u32, bool)]) -> u32 {
     let mut given = conditions.iter().filter(|(_, holds)| *holds);
     given.next().map_or(0, |(number, _)| *number)
 }
 
-fn judge_alone(block: &[u8]) -> u32 {
+/// Whether 9 applies, for an edition whose payload is so laid out.
+fn wrong_fields(block: &[u8], (start, full): (usize, usize)) -> bool {
     let [k, levels, planes] = [1, 2, 3].map(|place| u32::from(block[place]));
     let count = word(block, 14);
-    let bits = bits_of(&block[16..508], 3_936);
-    let wrong_field = block[0] != 1
-        || most_levels(k).map_or(true, |most| levels < 1 || levels > most)
+    let bits = bits_of(&block[start..508], full);
+    most_levels(k).map_or(true, |most| levels < 1 || levels > most)
         || planes > 18
         || !is_label(&block[4..12])
-        || count > 3_936
-        || bits.iter().skip(count).any(|bit| *bit);
-    lowest(&[(8, block[508..] != checks(block)), (9, wrong_field)])
+        || (block[0] == 2 && ![1, 2].contains(&block[16]))
+        || count > full
+        || bits.iter().skip(count).any(|bit| *bit)
+}
+
+fn judge_alone(block: &[u8]) -> u32 {
+    let layout = layout(block[0].into());
+    let wrong = layout.map_or(true, |layout| wrong_fields(block, layout));
+    lowest(&[(8, block[508..] != checks(block)), (9, wrong)])
+}
+
+/// The places of a record's blocks that must agree.
+fn common_places(edition: u8) -> Vec<usize> {
+    match edition {
+        2 => (0..12).chain(16..20).collect(),
+        _ => (0..12).collect(),
+    }
 }
 
 fn judge_in_turn(blocks: &[&[u8]], turn: usize, label: &[u8]) -> u32 {
-    let block = blocks[turn];
+    let (block, first) = (blocks[turn], blocks[0]);
     let alone = judge_alone(block);
-    let out_of_turn =
-        word(block, 12) != turn || block[..12] != blocks[0][..12] || &block[4..12] != label;
+    let mut common = common_places(first[0]).into_iter();
+    let out_of_turn = word(block, 12) != turn
+        || common.any(|place| block[place] != first[place])
+        || &block[4..12] != label;
     lowest(&[(alone, alone != 0), (10, out_of_turn)])
+}
+
+fn is_full(block: &[u8]) -> bool {
+    layout(block[0].into()).map_or(false, |(_, full)| word(block, 14) == full)
 }
 
 /// The length of the longest run that may be kept, tried from the longest on.
@@ -413,10 +450,7 @@ fn longest_run(blocks: &[&[u8]], label: &[u8]) -> usize {
     let sound: Vec<bool> = (0..blocks.len())
         .map(|turn| judge_in_turn(blocks, turn, label) == 0)
         .collect();
-    let full: Vec<bool> = blocks
-        .iter()
-        .map(|block| word(block, 14) == 3_936)
-        .collect();
+    let full: Vec<bool> = blocks.iter().map(|block| is_full(block)).collect();
     let lengths = (1..=blocks.len()).rev();
     lengths
         .filter(|length| sound[..*length].iter().all(|sound| *sound))
@@ -426,10 +460,10 @@ fn longest_run(blocks: &[&[u8]], label: &[u8]) -> usize {
 
 // --- The jobs ---
 
-/// The conditions of 1 and 2; 2 is judged only of a k that is served.
+/// The conditions of 1 and 2. Of a k that isn't served 1 is told first.
 fn wrong_sizes(k: u32, levels: u32) -> [(u32, bool); 2] {
     let most = most_levels(k);
-    let levels_wrong = most.map_or(false, |most| levels == 0 || levels > most);
+    let levels_wrong = levels == 0 || levels > most.unwrap_or(5);
     [(1, most.is_none()), (2, levels_wrong)]
 }
 
@@ -453,6 +487,48 @@ fn bound(k: u32, planes: u32) -> u128 {
     let tests: u128 = quarters.sum();
     let numbers = 4_u128.pow(k);
     u128::from(planes) * (tests + numbers) + numbers
+}
+
+/// Whether 6 applies to a writer; of an edition that there isn't, no room is
+/// too little.
+fn wrong_measure(layout: Option<(usize, usize)>, most: u128, count: u128, room: usize) -> bool {
+    let little_room = layout.map_or(false, |(_, full)| {
+        let full = full as u128;
+        (room as u128) < 512 * ((count + full - 1) / full).max(1)
+    });
+    count > most || little_room
+}
+
+/// The conditions of a request for record writing, in the order they are judged
+/// in.
+pub fn writing_conditions(request: &Request) -> [(u32, bool); 7] {
+    match request {
+        Request::RecordWriting {
+            k,
+            levels,
+            planes,
+            origin,
+            label,
+            bytes,
+            count,
+            room,
+        } => {
+            let [wrong_side, wrong_levels] = wrong_sizes(*k, *levels);
+            let layout = layout(origin.edition);
+            let most = bound((*k).min(8), *planes).min(8 * bytes.len() as u128);
+            let nobody = ![1, 2].contains(&origin.arm) || origin.mount >= 1 << 24;
+            [
+                wrong_side,
+                wrong_levels,
+                (5, *planes > 18),
+                (9, layout.is_none()),
+                (6, wrong_measure(layout, most, (*count).into(), *room)),
+                (7, !is_label(label)),
+                (9, origin.edition != 1 && nobody),
+            ]
+        }
+        _ => panic!("no request for record writing"),
+    }
 }
 
 /// Writes a list over the front of lent bytes.
@@ -562,23 +638,17 @@ pub fn answer(request: &Request) -> Answer {
             k,
             levels,
             planes,
+            origin,
             label,
             bytes,
             count,
             room,
         } => {
-            let mut conditions = wrong_sizes(*k, *levels).to_vec();
-            conditions.push((5, *planes > 18));
-            conditions.push((6, u128::from(*count) > 8 * bytes.len() as u128));
-            conditions.push((6, k <= &8 && u128::from(*count) > bound(*k, *planes)));
-            let blocks = ((u128::from(*count) + 3_935) / 3_936).max(1);
-            conditions.push((6, (*room as u128) < 512 * blocks));
-            conditions.push((7, !is_label(label)));
-            let refusal = lowest(&conditions);
+            let refusal = first(&writing_conditions(request));
             let lent = lent_bytes(*room);
             let (blocks, room) = if refusal == 0 {
                 let bits = bits_of(bytes, *count as usize);
-                let record = record([*k, *levels, *planes], label, &bits);
+                let record = record([*k, *levels, *planes], *origin, label, &bits);
                 (record.len() / 512, over_front(lent, &record))
             } else {
                 (0, lent)
@@ -606,26 +676,31 @@ pub fn answer(request: &Request) -> Answer {
             }
             let refusal = lowest(&conditions);
             let mut room = lent_bytes(*room);
-            let mut values = [0; 5];
+            let mut values = [0; 8];
             let mut total = 0;
             if refusal == 0 {
                 let run = longest_run(&whole, label);
+                let field = |place: usize| u32::from(whole[0][place]);
+                let start = if field(0) == 2 { 20 } else { 16 };
                 let kept = whole[..run].iter();
                 let bits: Vec<bool> = kept
-                    .flat_map(|block| bits_of(&block[16..508], word(block, 14)))
+                    .flat_map(|block| bits_of(&block[start..508], word(block, 14)))
                     .collect();
-                let last_is_full = word(whole[run - 1], 14) == 3_936;
-                let ended = if run < whole.len() && last_is_full {
+                let ended = if run < whole.len() && is_full(whole[run - 1]) {
                     judge_in_turn(&whole, run, label)
                 } else {
                     0
                 };
-                let [k, levels, planes] = [1, 2, 3].map(|place| u32::from(whole[0][place]));
-                values = [k, levels, planes, run as u32, ended];
+                let [k, levels, planes] = [1, 2, 3].map(field);
+                let [arm, mount] = match field(0) {
+                    2 => [field(16), field(17) * 65_536 + field(18) * 256 + field(19)],
+                    _ => [0, 0],
+                };
+                values = [k, levels, planes, run as u32, ended, field(0), arm, mount];
                 total = bits.len() as u64;
                 room = over_front(room, &bytes_of(&bits));
             }
-            let [k, levels, planes, run, ended] = values.map(Field::Small);
+            let [k, levels, planes, run, ended, edition, arm, mount] = values.map(Field::Small);
             vec![
                 ("refusal", Field::Small(refusal)),
                 ("k", k),
@@ -634,6 +709,9 @@ pub fn answer(request: &Request) -> Answer {
                 ("blocks", run),
                 ("bits", Field::Large(total)),
                 ("ended", ended),
+                ("edition", edition),
+                ("arm", arm),
+                ("mount", mount),
                 ("room", Field::Bytes(room)),
             ]
         }

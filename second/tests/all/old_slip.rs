@@ -5,8 +5,10 @@
 use crate::naive;
 use crate::steps;
 use second::block;
+use second::edition::{Edition, Origin};
 use second::jobs;
 use second::random::Random;
+use second::record::block_count;
 use second::refusal::Refusal;
 use second::samples;
 use second::sizes::Sizes;
@@ -16,10 +18,19 @@ use second::slip;
 fn record(sizes: Sizes, numbers: &[i32], label: &[u8], count: u64) -> Vec<u8> {
     let bits = samples::coding(sizes, numbers);
     let count = count.min(bits.count);
-    let mut room = vec![0; block::LENGTH * (1 + bits.bytes.len() / block::PAYLOAD_LENGTH)];
-    let (k, levels) = (sizes.k(), sizes.levels());
-    let blocks = jobs::record_writing(k, levels, bits.planes, label, &bits.bytes, count, &mut room);
-    room.truncate(block::LENGTH * blocks.unwrap() as usize);
+    let blocks = block_count(Edition::One, count) as usize;
+    let mut room = vec![0; block::LENGTH * blocks];
+    let written = jobs::record_writing(
+        sizes.k(),
+        sizes.levels(),
+        bits.planes,
+        Origin::UNNAMED,
+        label,
+        &bits.bytes,
+        count,
+        &mut room,
+    );
+    assert_eq!(written, Ok(blocks as u32));
     room
 }
 

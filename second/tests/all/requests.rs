@@ -4,6 +4,7 @@
 use crate::naive;
 use second::cases::{self, Options};
 use second::compare::{self, Outcome};
+use second::edition::Origin;
 use second::random::Random;
 use second::samples;
 use second::show;
@@ -39,7 +40,7 @@ fn every_refusal_of_every_job_appears_regularly() {
         &[0, 1, 2, 3, 4],
         &[0, 1, 2, 3, 5, 6],
         &[0, 1, 2, 3, 4],
-        &[0, 1, 2, 5, 6, 7],
+        &[0, 1, 2, 5, 6, 7, 9],
         &[0, 6, 7, 8, 9, 10],
         &[0, 6, 8, 9],
         &[0, 1, 2, 3, 4, 13],
@@ -199,6 +200,25 @@ fn requests_are_written_as_laid_down() {
         4, 9, 0, 0, 0, 0, 0, 0, 0, 1, 0, 0, 0, 0xFE, 0xFF, 0xFF, 0xFF, 1, 0, 0, 0, 2, 0, 0, 0,
     ];
     assert_eq!(written(inverse), laid_down);
+    let writing = Request::RecordWriting {
+        k: 3,
+        levels: 2,
+        planes: 5,
+        origin: Origin {
+            edition: 2,
+            arm: 1,
+            mount: 0x0102_0304,
+        },
+        label: b"0417AAL6".to_vec(),
+        bytes: vec![0xAB],
+        count: 7,
+        room: 512,
+    };
+    let mut laid_down = vec![5, 3, 0, 0, 0, 2, 0, 0, 0, 5, 0, 0, 0];
+    laid_down.extend([2, 0, 0, 0, 1, 0, 0, 0, 4, 3, 2, 1]);
+    laid_down.extend(b"\x08\0\0\x000417AAL6\x01\0\0\0\xAB");
+    laid_down.extend([7, 0, 0, 0, 0, 0, 0, 0, 0, 2, 0, 0]);
+    assert_eq!(written(writing), laid_down);
     let thumbnail = Request::Thumbnail {
         k: 3,
         levels: 2,

@@ -3,6 +3,7 @@
 
 use crate::naive;
 use crate::steps::{self, sizes};
+use second::edition::Origin;
 use second::jobs;
 use second::random::Random;
 use second::refusal::Refusal;
@@ -74,7 +75,9 @@ fn a_plane_is_finished_at_its_own_last_bit() {
 #[test]
 fn a_label_is_no_number() {
     let mut room = [0; 512];
-    let write = |label: &[u8], room: &mut [u8]| jobs::record_writing(3, 2, 0, label, &[], 0, room);
+    let write = |label: &[u8], room: &mut [u8]| {
+        jobs::record_writing(3, 2, 0, Origin::UNNAMED, label, &[], 0, room)
+    };
     assert_eq!(write(b"00000417", &mut room), Ok(1));
     assert_eq!(room[4..12], *b"00000417");
     for other in [

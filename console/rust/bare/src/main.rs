@@ -7,11 +7,12 @@
 
 use core::arch::{asm, global_asm};
 use core::panic::PanicInfo;
-use label::{Refusal, BLOCK_BYTES, MOST_PLANES, PAYLOAD_BYTES};
+use label::{Edition, Refusal, BLOCK_BYTES, MOST_PLANES, PAYLOAD_BYTES};
 
 const K: u32 = 5;
 const L: u32 = 2;
 const LABEL: &[u8; 8] = b"00000417";
+const EDITION: Edition = Edition::Two { arm: 1, mount: 70_123 };
 const PLACES: usize = label::places(K);
 const BLOCKS: usize = label::most_blocks(K, MOST_PLANES);
 
@@ -26,7 +27,7 @@ fn journey() -> Result<u8, Refusal> {
     let mut record = [0; BLOCKS * BLOCK_BYTES];
     label::forward(K, L, &picture, &mut numbers)?;
     let coded = label::code(K, L, &numbers, usize::MAX, &mut bytes)?;
-    let blocks = label::write(K, L, coded.n, LABEL, &bytes, coded.bits, &mut record)?;
+    let blocks = label::write(K, L, coded.n, EDITION, LABEL, &bytes, coded.bits, &mut record)?;
     if blocks < 2 {
         return Ok(2);
     }
@@ -38,7 +39,7 @@ fn journey() -> Result<u8, Refusal> {
         let settled = label::decode(kept.k, kept.levels, kept.n, &mut numbers, &payload, kept.bits)?;
         label::inverse(kept.k, kept.levels, &numbers, &mut shown, &mut room)?;
         let limit = label::grey_limit(kept.levels, settled.unfinished);
-        if (settled.unfinished == 0) != (count == blocks) {
+        if (settled.unfinished == 0) != (count == blocks) || kept.edition != EDITION {
             return Ok(3);
         }
         if picture

@@ -1,10 +1,11 @@
 //! A picture into a record, and what each first part of the record is worth: `cargo run --example cut`.
 
-use label::{Refusal, BLOCK_BYTES, MOST_PLANES, PAYLOAD_BYTES};
+use label::{Edition, Refusal, BLOCK_BYTES, MOST_PLANES, PAYLOAD_BYTES};
 
 const K: u32 = 6; // side 64
 const L: u32 = 2;
 const LABEL: &[u8; 8] = b"00000417";
+const EDITION: Edition = Edition::Two { arm: 1, mount: 70_123 };
 const PLACES: usize = label::places(K);
 const BLOCKS: usize = label::most_blocks(K, MOST_PLANES);
 
@@ -28,7 +29,7 @@ fn record_of(picture: &[u8], room: &mut [u8]) -> Result<usize, Refusal> {
     let mut bytes = [0; label::most_bytes(K, MOST_PLANES)];
     label::forward(K, L, picture, &mut numbers)?;
     let coded = label::code(K, L, &numbers, usize::MAX, &mut bytes)?;
-    label::write(K, L, coded.n, LABEL, &bytes, coded.bits, room)
+    label::write(K, L, coded.n, EDITION, LABEL, &bytes, coded.bits, room)
 }
 
 /// What a record shows: the planes that are unfinished, of how many, and how far off a grey can be.

@@ -9,10 +9,10 @@
 //! The S x S numbers stand in Z order: the place of row r, column c has the bits of r and c by turns, the lowest bit of
 //! c lowest. The levels, L, go from 1 to the smaller of 5 and k - 1; the bit planes, n, from 0 to 18. A label is eight
 //! ASCII characters, each 0 to 9 or A to Z. It is never a number: leading zeros count. Small letters and spaces are
-//! refused.
+//! refused. A record is of one of two editions, and the second names the arm and the mount: see [`Edition`].
 //!
 //! ```
-//! use label::{BLOCK_BYTES, PAYLOAD_BYTES, MOST_PLANES};
+//! use label::{Edition, BLOCK_BYTES, PAYLOAD_BYTES, MOST_PLANES};
 //!
 //! const K: u32 = 3; // side 8
 //! const L: u32 = 2;
@@ -27,7 +27,8 @@
 //! let mut record = [0; BLOCKS * BLOCK_BYTES];
 //! label::forward(K, L, &picture, &mut numbers)?;
 //! let coded = label::code(K, L, &numbers, usize::MAX, &mut bytes)?;
-//! let blocks = label::write(K, L, coded.n, b"00000417", &bytes, coded.bits, &mut record)?;
+//! let edition = Edition::Two { arm: 1, mount: 70_123 };
+//! let blocks = label::write(K, L, coded.n, edition, b"00000417", &bytes, coded.bits, &mut record)?;
 //! let record = &record[..blocks * BLOCK_BYTES];
 //!
 //! // and out of it
@@ -37,7 +38,7 @@
 //! let settled = label::decode(kept.k, kept.levels, kept.n, &mut numbers, &payload, kept.bits)?;
 //! label::inverse(kept.k, kept.levels, &numbers, &mut shown, &mut room)?;
 //! assert_eq!(label::grey_limit(kept.levels, settled.unfinished), 0);
-//! assert_eq!(shown, picture);
+//! assert_eq!((kept.edition, shown), (edition, picture));
 //! # Ok(())
 //! # }
 //! ```
@@ -53,8 +54,8 @@
 //! none that isn't zero has the wrong sign, and no grey is off by more than [`grey_limit`]. With p = 0 it is the very
 //! picture. A thumbnail of r halvings is, with p = 0, the low band that r levels leave of the picture, plus 128 and set
 //! into 0 to 255; else no grey is further from that than `grey_limit(levels - halvings, unfinished)`. All that is about
-//! bits of one coding: blocks of two shots under one label with the same k, L and n fit together unnoticed, and what they
-//! show was never shot.
+//! bits of one coding: blocks of two shots under one label with the same k, L and n fit together unnoticed in edition 1,
+//! and in edition 2 only if arm and mount number are the same too; what they show was never shot.
 //!
 //! # Linking
 //! The archive is x86-64 code for ELF, as on Linux, and calls `memcpy` and `memset`, nothing else. `build.rs` looks for
@@ -72,17 +73,18 @@
 )))]
 compile_error!("label: the archive is x86-64 code for ELF, as on Linux: build with --target x86_64-unknown-linux-gnu");
 
+mod edition;
 #[allow(unsafe_code)]
 pub mod raw;
 mod refusal;
 mod sizes;
 
+pub use edition::Edition;
 pub use refusal::Refusal;
-pub use sizes::{blocks, grey_limit, most_bits, most_blocks, most_bytes, most_levels, places, side};
-pub use sizes::{thumbnail_places, thumbnail_side};
-pub use sizes::{
-    BLOCK_BYTES, LABEL_BYTES, LEAST_K, MOST_K, MOST_LEVELS, MOST_PLANES, NUMBER_LIMIT, PAYLOAD_BITS, PAYLOAD_BYTES,
-};
+pub use sizes::{blocks, blocks_of, grey_limit, most_bits, most_blocks, most_bytes, most_levels, payload_bits_of};
+pub use sizes::{places, side, thumbnail_places, thumbnail_side};
+pub use sizes::{BLOCK_BYTES, LABEL_BYTES, LEAST_K, MOST_K, MOST_LEVELS, MOST_MOUNT, MOST_PLANES, NUMBER_LIMIT};
+pub use sizes::{PAYLOAD_BITS, PAYLOAD_BYTES};
 
 /// What [`code`] wrote.
 #[derive(Clone, Copy, Debug, PartialEq, Eq, Hash)]
@@ -111,9 +113,12 @@ pub struct Kept {
     pub levels: u32,
     /// The planes of the whole coding, n.
     pub n: u32,
+    /// The edition, with the arm and the mount that all blocks kept name in edition 2.
+    pub edition: Edition,
     /// The blocks kept.
     pub blocks: usize,
-    /// The bits that they hold. Where this is [`PAYLOAD_BITS`] for each block, there may have been more blocks.
+    /// The bits that they hold. Where this is [`payload_bits_of`] the edition for each block, there may have been more
+    /// blocks.
     pub bits: usize,
     /// Why the block behind them was not kept: [`Refusal::Damaged`], [`Refusal::Fields`] or [`Refusal::Turn`]. None
     /// where no block came, or the last one kept was not full.
@@ -219,54 +224,70 @@ pub fn thumbnail(
     refusal::judged(raw::thumbnail(k, levels, halvings, numbers, picture, room), ())
 }
 
-/// Bits to blocks: writes the record of the first `b` bits at the front of `room`, and gives its count of blocks.
+/// Bits to blocks: writes the record of the first `b` bits at the front of `room`, in this edition, and gives its count
+/// of blocks.
 ///
-/// It takes [`BLOCK_BYTES`] for each of [`blocks`]`(b)`; what lies behind is untouched.
+/// It takes [`BLOCK_BYTES`] for each of [`blocks_of`]`(edition, b)`; what lies behind is untouched.
 ///
 /// # Errors
 /// [`Side`](Refusal::Side), [`Levels`](Refusal::Levels), [`Planes`](Refusal::Planes), [`Room`](Refusal::Room) (more
-/// bits than the bytes have or than n planes can have, or too little room), [`Label`](Refusal::Label).
+/// bits than the bytes have or than n planes can have, or too little room), [`Label`](Refusal::Label),
+/// [`Fields`](Refusal::Fields) (an arm that is neither 1 nor 2, or a mount number above [`MOST_MOUNT`]).
 ///
 /// ```
+/// use label::{Edition, Refusal};
+///
 /// let mut record = [0; 512];
-/// assert_eq!(label::write(3, 2, 0, b"00000417", &[], 0, &mut record), Ok(1));
+/// assert_eq!(label::write(3, 2, 0, Edition::One, b"00000417", &[], 0, &mut record), Ok(1));
 /// assert_eq!(record[508..], [0x01, 0x92, 0x0D, 0x54]);
-/// assert_eq!(label::write(3, 2, 0, b"0417AAL6", &[], 0, &mut record), Ok(1));
-/// assert_eq!(label::write(3, 2, 0, b"0417aal6", &[], 0, &mut record), Err(label::Refusal::Label));
-/// assert_eq!(label::write(3, 2, 0, b"417", &[], 0, &mut record), Err(label::Refusal::Label));
+/// assert_eq!(label::write(3, 2, 0, Edition::One, b"0417AAL6", &[], 0, &mut record), Ok(1));
+/// assert_eq!(label::write(3, 2, 0, Edition::One, b"0417aal6", &[], 0, &mut record), Err(Refusal::Label));
+/// assert_eq!(label::write(3, 2, 0, Edition::One, b"417", &[], 0, &mut record), Err(Refusal::Label));
+///
+/// let edition = Edition::Two { arm: 2, mount: 70_123 };
+/// assert_eq!(label::write(3, 2, 0, edition, b"0417AAL6", &[], 0, &mut record), Ok(1));
+/// assert_eq!((record[0], &record[16..20]), (2, &[2, 0x01, 0x11, 0xEB][..]));
+/// let edition = Edition::Two { arm: 3, mount: 70_123 };
+/// assert_eq!(label::write(3, 2, 0, edition, b"0417AAL6", &[], 0, &mut record), Err(Refusal::Fields));
 /// ```
+#[allow(clippy::too_many_arguments)] // as many as the job has
 pub fn write(
     k: u32,
     levels: u32,
     n: u32,
+    edition: Edition,
     label: &[u8],
     bytes: &[u8],
     b: usize,
     room: &mut [u8],
 ) -> Result<usize, Refusal> {
-    raw::write(k, levels, n, label, bytes, b, room).result()
+    let (number, arm, mount) = (edition.number(), edition.arm(), edition.mount());
+    raw::write(k, levels, n, number, arm, mount, label, bytes, b, room).result()
 }
 
 /// Blocks to bits: keeps the longest run of good blocks from the front, and puts their payload at the front of `room`.
 ///
-/// `room` takes [`PAYLOAD_BYTES`] for each whole block of `blocks`. Whatever stands behind the run counts for nothing;
-/// what ended it is told by [`Kept::ended`]. The label is the one expected, and may be part of the blocks themselves.
+/// `room` takes [`PAYLOAD_BYTES`] for each whole block of `blocks`, in either edition. Whatever stands behind the run
+/// counts for nothing; what ended it is told by [`Kept::ended`]. The label is the one expected, and may be part of the
+/// blocks themselves.
 ///
-/// The run is of one record as far as blocks can tell: same k, L, n and label, numbered in turn. Blocks of another shot
-/// under the same label may have all of these, and then nobody can tell.
+/// The run is of one record as far as blocks can tell: same edition, k, L, n and label, in edition 2 same arm and mount
+/// too, numbered in turn. Blocks of another shot may have all of these, and then nobody can tell.
 ///
 /// # Errors
 /// [`Room`](Refusal::Room) (under 512 bytes, or too little room), [`Label`](Refusal::Label), and where block 0 can't be
 /// kept [`Damaged`](Refusal::Damaged), [`Fields`](Refusal::Fields) or [`Turn`](Refusal::Turn).
 ///
 /// ```
-/// use label::Refusal;
+/// use label::{Edition, Refusal};
 ///
 /// let mut record = [0; 512];
-/// label::write(3, 2, 3, b"00000417", &[0xC0, 0x08, 0x00], 17, &mut record).unwrap();
+/// let edition = Edition::Two { arm: 2, mount: 70_123 };
+/// label::write(3, 2, 3, edition, b"00000417", &[0xC0, 0x08, 0x00], 17, &mut record).unwrap();
 /// let mut room = [0; label::PAYLOAD_BYTES];
 /// let kept = label::read(&record, b"00000417", &mut room).unwrap();
-/// assert_eq!((kept.k, kept.levels, kept.n, kept.blocks, kept.bits, kept.ended), (3, 2, 3, 1, 17, None));
+/// assert_eq!((kept.k, kept.levels, kept.n, kept.edition), (3, 2, 3, edition));
+/// assert_eq!((kept.blocks, kept.bits, kept.ended), (1, 17, None));
 /// assert_eq!(label::read(&record, b"00000418", &mut room), Err(Refusal::Turn));
 /// record[16] ^= 1;
 /// assert_eq!(label::read(&record, b"00000417", &mut room), Err(Refusal::Damaged));
@@ -275,8 +296,9 @@ pub fn read(blocks: &[u8], label: &[u8], room: &mut [u8]) -> Result<Kept, Refusa
     raw::read(blocks, label, room).result()
 }
 
-/// Judges one block, but neither its number nor whose label it has. If its checks were right, and one or two of its bytes
-/// were changed in place since, or two unequal ones exchanged, it is always [`Damaged`](Refusal::Damaged).
+/// Judges one block, of either edition, but neither its number nor whose label it has. If its checks were right, and one
+/// or two of its bytes were changed in place since, or two unequal ones exchanged, it is always
+/// [`Damaged`](Refusal::Damaged).
 ///
 /// # Errors
 /// [`Room`](Refusal::Room) (not 512 bytes), [`Damaged`](Refusal::Damaged), [`Fields`](Refusal::Fields).

@@ -5,6 +5,7 @@
 //! field, or hands them on to C. They are safe too: the archive asks nothing of what it is given but that a slice is
 //! one, and that no slice which it writes to overlaps another. Rust's borrows are that.
 
+use crate::edition::Edition;
 use crate::refusal::{judged, Refusal};
 
 /// What [`forward`] answers.
@@ -49,7 +50,7 @@ pub struct Settled {
 #[derive(Clone, Copy, Debug, Default, PartialEq, Eq, Hash)]
 #[must_use]
 pub struct Blocks {
-    /// 0, or 1, 2, 5, 6, 7.
+    /// 0, or 1, 2, 5, 6, 7, 9.
     pub refusal: u32,
     /// The blocks written.
     pub blocks: usize,
@@ -74,6 +75,12 @@ pub struct Kept {
     pub bits: usize,
     /// The number that ended the run, 8, 9 or 10; 0 if none did.
     pub ended: u32,
+    /// The edition, 1 or 2.
+    pub edition: u32,
+    /// The arm, 1 or 2; 0 in edition 1.
+    pub arm: u32,
+    /// The mount number; 0 in edition 1.
+    pub mount: u32,
 }
 
 impl Planes {
@@ -132,19 +139,26 @@ impl Kept {
     ///
     /// # Errors
     /// The refusal, where its number is not 0.
+    ///
+    /// # Panics
+    /// If `edition` is neither 1 nor 2 where nothing was refused, too.
     pub const fn result(self) -> Result<crate::Kept, Refusal> {
-        let kept = crate::Kept {
+        // a refused answer has no edition
+        if let Err(refusal) = judged(self.refusal, ()) {
+            return Err(refusal);
+        }
+        Ok(crate::Kept {
             k: self.k,
             levels: self.levels,
             n: self.n,
+            edition: Edition::named(self.edition, self.arm, self.mount),
             blocks: self.blocks,
             bits: self.bits,
             ended: match judged(self.ended, ()) {
                 Ok(()) => None,
                 Err(refusal) => Some(refusal),
             },
-        };
-        judged(self.refusal, kept)
+        })
     }
 }
 
@@ -206,6 +220,9 @@ mod archive {
             k: u32,
             levels: u32,
             n: u32,
+            edition: u32,
+            arm: u32,
+            mount: u32,
             label: *const u8,
             label_count: usize,
             bytes: *const u8,
@@ -316,14 +333,31 @@ pub fn thumbnail(k: u32, levels: u32, halvings: u32, numbers: &[i32], picture: &
     }
 }
 
-/// Bits to blocks: see [`write`](crate::write).
-pub fn write(k: u32, levels: u32, n: u32, label: &[u8], bytes: &[u8], b: usize, room: &mut [u8]) -> Blocks {
+/// Bits to blocks: see [`write`](crate::write). An edition that is neither 1 nor 2 is 9, judged just before 6; in edition
+/// 2 so is an arm that is neither 1 nor 2, or a mount number above [`MOST_MOUNT`](crate::MOST_MOUNT), judged after 7. In
+/// edition 1 arm and mount are ignored.
+#[allow(clippy::too_many_arguments)] // they are label.h's
+pub fn write(
+    k: u32,
+    levels: u32,
+    n: u32,
+    edition: u32,
+    arm: u32,
+    mount: u32,
+    label: &[u8],
+    bytes: &[u8],
+    b: usize,
+    room: &mut [u8],
+) -> Blocks {
     // SAFETY: as above
     unsafe {
         archive::label_write(
             k,
             levels,
             n,
+            edition,
+            arm,
+            mount,
             label.as_ptr(),
             label.len(),
             bytes.as_ptr(),

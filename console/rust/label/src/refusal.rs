@@ -4,7 +4,8 @@ use core::error::Error;
 use core::fmt;
 
 /// Why a call was refused: the lowest of these that applies; but 13, which [`thumbnail`](crate::thumbnail) alone has, is
-/// judged after 2 and before 3.
+/// judged after 2 and before 3. (An edition that is none, which is 9 and judged just before 6, can be given to
+/// [`raw::write`](crate::raw::write) alone.)
 ///
 /// A refused call has changed no byte and no number that it was lent. The numbers are those of the record's paper, and
 /// of `label.h`:
@@ -38,9 +39,11 @@ pub enum Refusal {
     Label = 7,
     /// 8: a block's check A or B is wrong.
     Damaged = 8,
-    /// 9: a block's edition, k, L, n, label, payload count or an unused bit is wrong.
+    /// 9: a block's edition, k, L, n, label, arm, payload count or an unused bit is wrong; or an arm to write is neither 1
+    /// nor 2, or a mount number above [`MOST_MOUNT`](crate::MOST_MOUNT).
     Fields = 9,
-    /// 10: a block's number is out of turn, its bytes 0 to 11 are unlike block 0's, or its label unlike the one expected.
+    /// 10: a block's number is out of turn, its bytes 0 to 11, in edition 2 also 16 to 19, are unlike block 0's, or its
+    /// label unlike the one expected.
     Turn = 10,
     /// 13: the halvings of a thumbnail are not in 1 to L.
     Halvings = 13,
@@ -100,7 +103,7 @@ impl fmt::Display for Refusal {
             Refusal::Room => "too few bytes, too little room, or too many bits",
             Refusal::Label => "a label is eight characters, 0-9 or A-Z; leading zeros count",
             Refusal::Damaged => "a block is damaged, a check is wrong",
-            Refusal::Fields => "a block is no block of edition 1, a field is wrong",
+            Refusal::Fields => "a field of a block is wrong, or the arm or the mount number to write",
             Refusal::Turn => "a block is out of its turn in the record asked for",
             Refusal::Halvings => "the halvings of a thumbnail are not in 1 to the levels",
         })

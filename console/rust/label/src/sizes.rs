@@ -1,5 +1,7 @@
 //! Limits, and how much a caller has to lend. All of it can be worked out when a program is compiled.
 
+use crate::edition::Edition;
+
 /// The least k of a side 2^k.
 pub const LEAST_K: u32 = 3;
 /// The largest k of a side 2^k.
@@ -14,10 +16,13 @@ pub const NUMBER_LIMIT: i32 = 262_143;
 pub const LABEL_BYTES: usize = 8;
 /// The bytes of a block.
 pub const BLOCK_BYTES: usize = 512;
-/// The bytes of a block that hold bits of the coding.
+/// The bytes of a block of edition 1 that hold bits of the coding, and the room that [`read`](crate::read) takes for each
+/// whole block, of whichever edition.
 pub const PAYLOAD_BYTES: usize = 492;
-/// The bits of the coding that a full block holds.
+/// The bits of the coding that a full block of edition 1 holds: see [`payload_bits_of`].
 pub const PAYLOAD_BITS: usize = 8 * PAYLOAD_BYTES;
+/// The largest mount number.
+pub const MOST_MOUNT: u32 = 16_777_215;
 
 /// S, the side of a picture, 2^k; 0 where k is out of its range.
 #[must_use]
@@ -93,17 +98,40 @@ pub const fn most_bytes(k: u32, n: u32) -> usize {
     most_bits(k, n).div_ceil(8)
 }
 
-/// The blocks of a record of so many bits: one at least, and one for each 3,936 bits begun.
+/// The bits of the coding that a full block holds: 3,936 in edition 1, 3,904 in edition 2.
 #[must_use]
-pub const fn blocks(bits: usize) -> usize {
-    if bits == 0 {
-        1
-    } else {
-        bits.div_ceil(PAYLOAD_BITS)
+pub const fn payload_bits_of(edition: Edition) -> usize {
+    match edition {
+        Edition::One => PAYLOAD_BITS,
+        Edition::Two { .. } => PAYLOAD_BITS - 8 * 4, // arm and mount take four bytes
     }
 }
 
-/// The most blocks of a record of n planes; 0 where k or n is out of its range.
+/// Of edition 1 alone: the blocks of its record of so many bits. For any edition take [`blocks_of`].
+///
+/// It is one at least, and one for each 3,936 bits begun. As room for [`Edition::Two`] it may fall a block short, as at
+/// 3,905 to 3,936 bits.
+#[must_use]
+pub const fn blocks(bits: usize) -> usize {
+    blocks_of(Edition::One, bits)
+}
+
+/// The blocks of a record of so many bits: one at least, and one for each [`payload_bits_of`] begun.
+///
+/// ```
+/// let edition = label::Edition::Two { arm: 1, mount: 70_123 };
+/// assert_eq!((label::blocks(3936), label::blocks_of(edition, 3936)), (1, 2));
+/// ```
+#[must_use]
+pub const fn blocks_of(edition: Edition, bits: usize) -> usize {
+    if bits == 0 {
+        1
+    } else {
+        bits.div_ceil(payload_bits_of(edition))
+    }
+}
+
+/// The most blocks of a record of n planes, in either edition; 0 where k or n is out of its range.
 ///
 /// Its record takes [`BLOCK_BYTES`] for each of them, and the room to read it [`PAYLOAD_BYTES`].
 ///
@@ -118,7 +146,8 @@ pub const fn most_blocks(k: u32, n: u32) -> usize {
     if most_bits(k, n) == 0 {
         0
     } else {
-        blocks(most_bits(k, n))
+        // in edition 2 a block holds less
+        blocks_of(Edition::Two { arm: 1, mount: 0 }, most_bits(k, n))
     }
 }
 

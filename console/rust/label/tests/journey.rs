@@ -1,9 +1,10 @@
-//! Pictures there and back, whole and cut, at every side and every number of levels.
+//! Pictures there and back, whole and cut, at every side and every number of levels, in both editions.
 
 mod pictures;
 
-use label::{Refusal, BLOCK_BYTES, PAYLOAD_BITS, PAYLOAD_BYTES};
-use pictures::{coding, low_bands, media_block, pictures, record, set, sizes, Chance, Low, LABEL, MEDIA};
+use label::{Edition, Refusal, BLOCK_BYTES, PAYLOAD_BYTES};
+use pictures::{arm_block, coding, low_bands, media_block, pictures, record, set, sizes};
+use pictures::{Chance, Low, BY_ARM_2, EDITIONS, LABEL, MEDIA};
 
 /// What decoded numbers and greys are worth against the true ones, with p planes unfinished.
 fn as_good_as_promised(levels: u32, unfinished: u32, numbers: &[i32], truth: &[i32], shown: &[u8], picture: &[u8]) {
@@ -46,22 +47,29 @@ fn there_and_back() {
     for (k, levels) in sizes() {
         for picture in pictures(k) {
             let coding = coding(k, levels, &picture);
-            let record = record(k, levels, &coding);
-            for block in record.chunks(BLOCK_BYTES) {
-                assert_eq!(label::check(block), Ok(()));
-            }
-            let mut payload = vec![0x55; record.len() / BLOCK_BYTES * PAYLOAD_BYTES];
-            let kept = label::read(&record, LABEL, &mut payload).expect("what was written");
-            assert_eq!(
-                (kept.k, kept.levels, kept.n, kept.bits),
-                (k, levels, coding.n, coding.bits)
-            );
-            assert_eq!((kept.blocks, kept.ended), (label::blocks(coding.bits), None));
+            let payloads = EDITIONS.map(|edition| {
+                let record = record(k, levels, edition, &coding);
+                for block in record.chunks(BLOCK_BYTES) {
+                    assert_eq!(label::check(block), Ok(()));
+                }
+                let mut payload = vec![0x55; record.len() / BLOCK_BYTES * PAYLOAD_BYTES];
+                let kept = label::read(&record, LABEL, &mut payload).expect("what was written");
+                assert_eq!(
+                    (kept.k, kept.levels, kept.n, kept.bits),
+                    (k, levels, coding.n, coding.bits)
+                );
+                assert_eq!((kept.blocks, kept.ended), (record.len() / BLOCK_BYTES, None));
+                assert_eq!(kept.edition, edition);
+                payload.truncate(coding.bits.div_ceil(8));
+                payload
+            });
+            let [payload, other] = payloads;
+            assert_eq!(payload, other, "the editions hold other bits");
 
             let (mut numbers, mut shown, mut room) = (coding.numbers.clone(), picture.clone(), coding.numbers.clone());
             numbers.fill(-5);
             shown.fill(1);
-            let settled = label::decode(k, levels, kept.n, &mut numbers, &payload, kept.bits).expect("what was kept");
+            let settled = label::decode(k, levels, coding.n, &mut numbers, &payload, coding.bits).expect("its bits");
             assert_eq!((settled.unfinished, settled.read), (0, coding.bits));
             assert_eq!(numbers, coding.numbers);
             label::inverse(k, levels, &numbers, &mut shown, &mut room).expect("what was settled");
@@ -72,13 +80,13 @@ fn there_and_back() {
     }
 }
 
-#[test]
-fn a_cut_record_keeps_its_promise() {
+/// Every first part of the records of an edition, of sides below 2^k.
+fn cut_records(edition: Edition, below: u32) {
     let (mut cut, mut unlike, mut thumbnails) = (0, 0, 0);
-    for (k, levels) in sizes().filter(|(k, _)| *k < 8) {
+    for (k, levels) in sizes().filter(|(k, _)| *k < below) {
         for picture in pictures(k) {
             let coding = coding(k, levels, &picture);
-            let record = record(k, levels, &coding);
+            let record = record(k, levels, edition, &coding);
             let blocks = record.len() / BLOCK_BYTES;
             let bands = low_bands(k, levels, &picture);
             let mut last = 18;
@@ -87,9 +95,12 @@ fn a_cut_record_keeps_its_promise() {
                 let count = length / BLOCK_BYTES;
                 let mut payload = vec![0x55; count * PAYLOAD_BYTES];
                 let kept = label::read(&record[..length], LABEL, &mut payload).expect("whole blocks open");
-                assert_eq!((kept.k, kept.levels, kept.n), (k, levels, coding.n));
+                assert_eq!(
+                    (kept.k, kept.levels, kept.n, kept.edition),
+                    (k, levels, coding.n, edition)
+                );
                 assert_eq!((kept.blocks, kept.ended), (count, None));
-                assert_eq!(kept.bits, coding.bits.min(count * PAYLOAD_BITS));
+                assert_eq!(kept.bits, coding.bits.min(count * label::payload_bits_of(edition)));
 
                 let places = label::places(k);
                 let (mut numbers, mut shown, mut room) = (vec![9; places], vec![9; places], vec![9; places]);
@@ -106,9 +117,19 @@ fn a_cut_record_keeps_its_promise() {
         }
     }
     assert!(
-        cut > 100 && unlike > 100 && thumbnails > 100,
+        cut > 50 && unlike > 50 && thumbnails > 100,
         "{cut} cut records, of which {unlike} show it, and {thumbnails} of their thumbnails"
     );
+}
+
+#[test]
+fn a_cut_record_keeps_its_promise() {
+    cut_records(Edition::One, 8);
+}
+
+#[test]
+fn a_cut_record_of_edition_2_keeps_its_promise() {
+    cut_records(BY_ARM_2, 7);
 }
 
 #[test]
@@ -170,7 +191,10 @@ fn a_label_with_a_media_type() {
     let coded = label::code(3, 2, &numbers, usize::MAX, &mut bytes).expect("numbers");
     assert_eq!((coded.n, coded.bits), (3, 17));
     let mut block = [0xAA; BLOCK_BYTES];
-    assert_eq!(label::write(3, 2, 3, MEDIA, &bytes, 17, &mut block), Ok(1));
+    assert_eq!(
+        label::write(3, 2, 3, Edition::One, MEDIA, &bytes, 17, &mut block),
+        Ok(1)
+    );
     assert_eq!(block, media_block());
     assert_eq!(label::check(&block), Ok(()));
 
@@ -188,9 +212,32 @@ fn a_label_with_a_media_type() {
 }
 
 #[test]
+fn the_block_of_edition_2_of_the_format_page() {
+    let bytes = [0xC0, 0x08, 0x00];
+    let mut block = [0xAA; BLOCK_BYTES];
+    assert_eq!(label::write(3, 2, 3, BY_ARM_2, MEDIA, &bytes, 17, &mut block), Ok(1));
+    assert_eq!(block, arm_block());
+    assert_eq!(label::check(&block), Ok(()));
+
+    let mut payload = [0x55; PAYLOAD_BYTES];
+    let kept = label::read(&block, MEDIA, &mut payload).expect("what was written");
+    let wanted = label::Kept {
+        k: 3,
+        levels: 2,
+        n: 3,
+        edition: BY_ARM_2,
+        blocks: 1,
+        bits: 17,
+        ended: None,
+    };
+    assert_eq!(kept, wanted);
+    assert_eq!((&payload[..3], &payload[3..]), (&bytes[..], &[0x55; 489][..]));
+}
+
+#[test]
 fn a_label_that_is_part_of_the_record() {
     let picture = &pictures(4)[2];
-    let record = record(4, 3, &coding(4, 3, picture));
+    let record = record(4, 3, Edition::One, &coding(4, 3, picture));
     let mut payload = vec![0; record.len()];
     assert!(label::read(&record, &record[4..12], &mut payload).is_ok());
 }

@@ -2,8 +2,8 @@
 
 mod pictures;
 
-use label::{raw, Refusal, BLOCK_BYTES, PAYLOAD_BYTES};
-use pictures::{coding, media_block, pictures, record, seal, sizes, LABEL, MEDIA};
+use label::{raw, Edition, Refusal, BLOCK_BYTES, MOST_MOUNT, PAYLOAD_BYTES};
+use pictures::{arm_block, coding, media_block, pictures, record, seal, sizes, BY_ARM_2, EDITIONS, LABEL, MEDIA};
 use std::collections::HashSet;
 
 const ODD: i32 = -77; // what lent slices hold before a call
@@ -55,13 +55,28 @@ fn thumbnail(k: u32, levels: u32, halvings: u32, numbers: &[i32], lent: [usize; 
     answer
 }
 
+/// In edition 1, and in edition 2 with an arm and a mount that are right: the answers are the same here.
 fn write(k: u32, levels: u32, n: u32, label: &[u8], bytes: usize, b: usize, room: usize) -> Result<usize, Refusal> {
-    let mut lent = vec![BYTE; room];
-    let answer = label::write(k, levels, n, label, &vec![0; bytes], b, &mut lent);
-    if answer.is_err() {
-        assert!(lent.iter().all(|byte| *byte == BYTE));
+    let [first, second] = EDITIONS.map(|edition| {
+        let mut lent = vec![BYTE; room];
+        let answer = label::write(k, levels, n, edition, label, &vec![0; bytes], b, &mut lent);
+        if answer.is_err() {
+            assert!(lent.iter().all(|byte| *byte == BYTE));
+        }
+        answer
+    });
+    assert_eq!(first, second, "the editions answer differently");
+    first
+}
+
+/// The plain number, of any edition, arm and mount; one bit in one byte, in so much room.
+fn plainly(numbers: [u32; 3], planes: u32, label: &[u8], room: usize) -> u32 {
+    let (mut lent, [edition, arm, mount]) = (vec![BYTE; room], numbers);
+    let answer = raw::write(3, 2, planes, edition, arm, mount, label, &[0x80], 1, &mut lent);
+    if answer.refusal != 0 {
+        assert!(answer.blocks == 0 && lent.iter().all(|byte| *byte == BYTE));
     }
-    answer
+    answer.refusal
 }
 
 fn read(blocks: &[u8], label: &[u8], room: usize) -> Result<label::Kept, Refusal> {
@@ -75,7 +90,11 @@ fn read(blocks: &[u8], label: &[u8], room: usize) -> Result<label::Kept, Refusal
 
 /// A record of several blocks.
 fn long_record() -> Vec<u8> {
-    let record = record(5, 3, &coding(5, 3, &pictures(5)[3]));
+    long_record_of(Edition::One)
+}
+
+fn long_record_of(edition: Edition) -> Vec<u8> {
+    let record = record(5, 3, edition, &coding(5, 3, &pictures(5)[3]));
     assert!(record.len() >= 3 * BLOCK_BYTES);
     record
 }
@@ -218,16 +237,22 @@ fn room() {
     for room in [0, 1, 511] {
         assert_eq!(write(3, 2, 0, LABEL, 0, 0, room), Err(Refusal::Room));
     }
-    assert_eq!(write(8, 5, 18, LABEL, 1000, 3936, 512), Ok(1));
-    assert_eq!(write(8, 5, 18, LABEL, 1000, 3937, 1023), Err(Refusal::Room));
-    assert_eq!(write(8, 5, 18, LABEL, 1000, 3937, 1024), Ok(2));
-    // too little to read, or too little room for it
-    let record = long_record();
-    for length in [0, 1, 511] {
-        assert_eq!(read(&record[..length], LABEL, 10_000), Err(Refusal::Room));
+    let written = |edition: Edition, b: usize, room: usize| {
+        label::write(8, 5, 18, edition, LABEL, &[0; 1000], b, &mut vec![BYTE; room])
+    };
+    for (edition, full) in EDITIONS.into_iter().zip([3936, 3904]) {
+        assert_eq!(written(edition, full, 512), Ok(1));
+        assert_eq!(written(edition, full + 1, 1023), Err(Refusal::Room));
+        assert_eq!(written(edition, full + 1, 1024), Ok(2));
+        // too little to read, or too little room for it: 492 bytes a block in both
+        let record = long_record_of(edition);
+        for length in [0, 1, 511] {
+            assert_eq!(read(&record[..length], LABEL, 10_000), Err(Refusal::Room));
+        }
+        assert_eq!(read(&record, LABEL, room_for(&record) - 1), Err(Refusal::Room));
+        assert!(read(&record, LABEL, room_for(&record)).is_ok());
     }
-    assert_eq!(read(&record, LABEL, room_for(&record) - 1), Err(Refusal::Room));
-    assert!(read(&record, LABEL, room_for(&record)).is_ok());
+    let record = long_record();
     // not a block
     for length in [0, 1, 511, 513, 1024] {
         assert_eq!(label::check(&record[..length]), Err(Refusal::Room));
@@ -288,8 +313,69 @@ fn every_byte_in_each_place_of_a_label() {
 }
 
 #[test]
+fn arms_and_mounts() {
+    for (arm, mount, refusal) in [
+        (0, 0, 9),
+        (1, 0, 0),
+        (2, 0, 0),
+        (3, 0, 9),
+        (257, 0, 9), // its low byte would be right
+        (u32::MAX, 0, 9),
+        (1, 1, 0),
+        (1, MOST_MOUNT, 0),
+        (1, MOST_MOUNT + 1, 9),
+        (1, u32::MAX, 9),
+        (0, u32::MAX, 9),
+    ] {
+        assert_eq!(
+            plainly([2, arm, mount], 1, LABEL, 512),
+            refusal,
+            "arm {arm}, mount {mount}"
+        );
+        // in edition 1 they are not looked at, and the block is the same
+        let mut blocks = [[BYTE; BLOCK_BYTES]; 2];
+        assert_eq!(
+            raw::write(3, 2, 1, 1, arm, mount, LABEL, &[0x80], 1, &mut blocks[0]).refusal,
+            0
+        );
+        assert_eq!(
+            label::write(3, 2, 1, Edition::One, LABEL, &[0x80], 1, &mut blocks[1]),
+            Ok(1)
+        );
+        assert_eq!(blocks[0], blocks[1]);
+        // by name
+        let edition = Edition::Two { arm, mount };
+        let answer = label::write(3, 2, 1, edition, LABEL, &[0x80], 1, &mut blocks[0]);
+        assert_eq!(answer, if refusal == 0 { Ok(1) } else { Err(Refusal::Fields) });
+    }
+    for edition in [0, 3, 255, 256, 257, 258, u32::MAX] {
+        assert_eq!(plainly([edition, 1, 0], 1, LABEL, 512), 9, "edition {edition}");
+    }
+}
+
+#[test]
+fn nine_of_the_edition_before_six_and_of_arm_and_mount_after_seven() {
+    for wrong in [[3, 1, 0], [3, 0, u32::MAX]] {
+        assert_eq!(plainly(wrong, 19, b"417", 511), 5);
+        assert_eq!(plainly(wrong, 1, b"417", 511), 9);
+    }
+    for wrong in [[2, 0, 0], [2, 1, u32::MAX]] {
+        assert_eq!(plainly(wrong, 19, b"417", 511), 5);
+        assert_eq!(plainly(wrong, 1, b"417", 511), 6);
+        assert_eq!(plainly(wrong, 1, b"417", 512), 7);
+        assert_eq!(plainly(wrong, 1, LABEL, 512), 9);
+    }
+}
+
+#[test]
 fn damage() {
-    let record = long_record();
+    for edition in EDITIONS {
+        damage_to(edition);
+    }
+}
+
+fn damage_to(edition: Edition) {
+    let record = long_record_of(edition);
     for place in (0..BLOCK_BYTES).step_by(13).chain([508, 509, 510, 511]) {
         let mut damaged = record.clone();
         damaged[place] ^= 0x10;
@@ -300,16 +386,26 @@ fn damage() {
         damaged[BLOCK_BYTES + place] ^= 0x10;
         let kept = read(&damaged, LABEL, room_for(&record)).expect("block 0 is whole");
         assert_eq!((kept.blocks, kept.ended), (1, Some(Refusal::Damaged)));
-        assert_eq!(kept.bits, label::PAYLOAD_BITS);
+        assert_eq!((kept.bits, kept.edition), (label::payload_bits_of(edition), edition));
     }
 }
 
 #[test]
 fn fields() {
-    let record = long_record();
+    for edition in EDITIONS {
+        fields_of(edition);
+    }
+}
+
+fn fields_of(edition: Edition) {
+    let record = long_record_of(edition);
+    let arm: &[(usize, u8)] = match edition {
+        Edition::Two { .. } => &[(16, 0), (16, 3), (16, 255)],
+        _ => &[],
+    };
     for (place, byte) in [
         (0, 0),
-        (0, 2),
+        (0, 3),
         (1, 2),
         (1, 9),
         (2, 0),
@@ -318,7 +414,12 @@ fn fields() {
         (4, b'a'),
         (11, b' '),
         (14, 0xFF),
-    ] {
+        (15, record[15] + 1), // a bit more than a block holds
+    ]
+    .iter()
+    .chain(arm)
+    .copied()
+    {
         let mut wrong = record.clone();
         wrong[place] = byte;
         seal(&mut wrong[..512]);
@@ -334,12 +435,21 @@ fn fields() {
         let kept = read(&wrong, LABEL, room_for(&record)).expect("block 0 is right");
         assert_eq!((kept.blocks, kept.ended), (1, Some(Refusal::Fields)));
     }
-    // an unused bit
-    let mut block = [0; 512];
-    assert_eq!(label::write(3, 2, 3, LABEL, &[0xC0, 0x08, 0x00], 17, &mut block), Ok(1));
-    block[18] |= 1;
-    seal(&mut block);
-    assert_eq!(label::check(&block), Err(Refusal::Fields));
+    // an unused bit, and in edition 2 any mount number
+    for (block, start) in [(media_block(), 16), (arm_block(), 20)] {
+        for place in start + 2..508 {
+            let mut wrong = block;
+            wrong[place] |= 1;
+            seal(&mut wrong);
+            assert_eq!(label::check(&wrong), Err(Refusal::Fields), "byte {place}");
+        }
+    }
+    for place in 17..20 {
+        let mut other = arm_block();
+        other[place] ^= 0xFF;
+        seal(&mut other);
+        assert_eq!(label::check(&other), Ok(()));
+    }
 }
 
 #[test]
@@ -370,13 +480,46 @@ fn turns() {
 }
 
 #[test]
+fn blocks_of_one_edition_arm_and_mount() {
+    let two = |arm, mount| Edition::Two { arm, mount };
+    let mounts = [70_122, 70_123 ^ 0x100, 70_123 ^ 0x01_0000].map(|mount| two(2, mount));
+    let others = [Edition::One, two(1, 70_123), BY_ARM_2].into_iter().chain(mounts);
+    let records: Vec<_> = others.map(|edition| (edition, long_record_of(edition))).collect();
+    for (first, record) in &records {
+        for (second, other) in &records {
+            let joined = [&record[..512], &other[512..]].concat();
+            let kept = read(&joined, LABEL, room_for(&joined)).expect("block 0 is the first");
+            if first == second {
+                assert_eq!((kept.blocks, kept.ended), (record.len() / BLOCK_BYTES, None));
+            } else {
+                assert_eq!((kept.blocks, kept.ended), (1, Some(Refusal::Turn)));
+            }
+            assert_eq!(kept.edition, *first);
+        }
+    }
+}
+
+#[test]
+fn a_block_of_edition_1_that_would_be_full_in_edition_2() {
+    let mut record = long_record();
+    record[14..16].copy_from_slice(&3904_u16.to_be_bytes());
+    record[504..508].fill(0);
+    seal(&mut record[..512]);
+    let kept = read(&record, LABEL, room_for(&record)).expect("block 0 is right");
+    assert_eq!((kept.blocks, kept.bits, kept.ended), (1, 3904, None));
+}
+
+#[test]
 fn slices_of_length_0() {
     assert_eq!(label::forward(3, 2, &[], &mut []), Err(Refusal::Length));
     assert_eq!(label::code(3, 2, &[], 0, &mut []), Err(Refusal::Length));
     assert_eq!(label::decode(3, 2, 0, &mut [], &[], 0), Err(Refusal::Length));
     assert_eq!(label::inverse(3, 2, &[], &mut [], &mut []), Err(Refusal::Length));
     assert_eq!(label::thumbnail(3, 2, 2, &[], &mut [], &mut []), Err(Refusal::Length));
-    assert_eq!(label::write(3, 2, 0, &[], &[], 0, &mut []), Err(Refusal::Room));
+    assert_eq!(
+        label::write(3, 2, 0, Edition::One, &[], &[], 0, &mut []),
+        Err(Refusal::Room)
+    );
     assert_eq!(label::read(&[], &[], &mut []), Err(Refusal::Room));
     assert_eq!(label::check(&[]), Err(Refusal::Room));
     // and where they are enough
@@ -394,7 +537,7 @@ fn slices_of_length_0() {
         })
     );
     assert_eq!(numbers, [0; 64]);
-    assert_eq!(label::write(3, 2, 0, LABEL, &[], 0, &mut [0; 512]), Ok(1));
+    assert_eq!(label::write(3, 2, 0, Edition::One, LABEL, &[], 0, &mut [0; 512]), Ok(1));
 }
 
 #[test]
@@ -451,7 +594,7 @@ fn plain_answers() {
     assert_eq!(raw::thumbnail(3, 2, 0, &[i32::MIN; 64], &mut [], &mut []), 13);
     assert_eq!(raw::thumbnail(3, 2, 1, &[0; 64], &mut [0; 16], &mut [0; 16]), 0);
     assert_eq!(
-        raw::write(3, 2, 0, b"417", &[], 0, &mut [0; 512]),
+        raw::write(3, 2, 0, 1, 0, 0, b"417", &[], 0, &mut [0; 512]),
         raw::Blocks { refusal: 7, blocks: 0 }
     );
     assert_eq!(
@@ -461,6 +604,11 @@ fn plain_answers() {
 
     let kept = raw::read(&record, LABEL, &mut room);
     assert_eq!((kept.refusal, kept.k, kept.levels, kept.ended), (0, 5, 3, 0));
+    assert_eq!((kept.edition, kept.arm, kept.mount), (1, 0, 0));
+    assert_eq!(kept.result(), label::read(&record, LABEL, &mut room));
+    let record = long_record_of(BY_ARM_2);
+    let kept = raw::read(&record, LABEL, &mut room);
+    assert_eq!((kept.refusal, kept.edition, kept.arm, kept.mount), (0, 2, 2, 70_123));
     assert_eq!(kept.result(), label::read(&record, LABEL, &mut room));
 }
 
@@ -489,4 +637,14 @@ fn a_refusal_that_there_is_not() {
 #[should_panic(expected = "not of this package's version")]
 fn a_refusal_above_all() {
     let _ = raw::Planes { refusal: 14, n: 0 }.result();
+}
+
+#[test]
+#[should_panic(expected = "not of this package's version")]
+fn an_edition_that_there_is_not() {
+    let kept = raw::Kept {
+        edition: 3,
+        ..raw::Kept::default()
+    };
+    let _ = kept.result();
 }

@@ -1,8 +1,9 @@
 //! Limits and room, against the formulas in numbers that can't pass their width, and known when a program is compiled.
 
-use label::{LEAST_K, MOST_K, MOST_LEVELS, MOST_PLANES};
+use label::{Edition, LEAST_K, MOST_K, MOST_LEVELS, MOST_PLANES};
 
 const ANY: [u32; 12] = [0, 1, 2, 7, 8, 9, 18, 19, 31, 32, 64, u32::MAX];
+const TWO: Edition = Edition::Two { arm: 2, mount: 70_123 };
 
 #[test]
 fn limits() {
@@ -13,6 +14,8 @@ fn limits() {
         (512, 492, 3936)
     );
     assert_eq!(label::LABEL_BYTES, b"00000417".len());
+    assert_eq!(label::MOST_MOUNT, (1 << 24) - 1);
+    assert_eq!([Edition::One, TWO].map(label::payload_bits_of), [3936, 3904]);
 }
 
 #[test]
@@ -21,8 +24,11 @@ fn known_when_compiled() {
     const LENT: [u8; label::most_bytes(6, MOST_PLANES)] = [0; label::most_bytes(6, MOST_PLANES)];
     const BLOCKS: usize = label::most_blocks(6, MOST_PLANES);
     const LIMIT: u8 = label::grey_limit(2, 2);
+    const FULL: [u8; label::payload_bits_of(TWO) / 8] = [0; 488];
+    const OF: usize = label::blocks_of(TWO, 7809);
     assert_eq!((BITS, LENT.len(), BLOCKS, LIMIT), (102_394, 12_800, 27, 45));
-    assert_eq!(label::most_blocks(8, MOST_PLANES), 417);
+    assert_eq!((FULL.len(), OF, TWO.number()), (488, 3, 2));
+    assert_eq!(label::most_blocks(8, MOST_PLANES), 420);
 }
 
 #[test]
@@ -41,7 +47,10 @@ fn room_by_the_formulas() {
             let bits = u128::from(n) * (4 * side * side - 1) / 3 + side * side;
             assert_eq!(label::most_bits(k, n) as u128, bits);
             assert_eq!(label::most_bytes(k, n) as u128, bits.div_ceil(8));
-            assert_eq!(label::most_blocks(k, n) as u128, 1.max(bits.div_ceil(3936)));
+            assert_eq!(label::most_blocks(k, n) as u128, 1.max(bits.div_ceil(3904)));
+            for edition in [Edition::One, TWO] {
+                assert!(label::blocks_of(edition, label::most_bits(k, n)) <= label::most_blocks(k, n));
+            }
         }
     }
 }
@@ -73,6 +82,13 @@ fn blocks_of_any_bits() {
         [1, 1, 1, 1, 2, 2, 3]
     );
     assert_eq!(label::blocks(usize::MAX), usize::MAX / 3936 + 1);
+    assert_eq!(
+        [0, 1, 3903, 3904, 3905, 7808, 7809].map(|bits| label::blocks_of(TWO, bits)),
+        [1, 1, 1, 1, 2, 2, 3]
+    );
+    for bits in (0..20_000).step_by(7) {
+        assert_eq!(label::blocks_of(Edition::One, bits), label::blocks(bits));
+    }
 }
 
 #[test]

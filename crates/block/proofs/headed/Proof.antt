@@ -4,7 +4,7 @@ use mathlib.Core.Path.{ap, _∙_}
 use mathlib.Core.List.{List, _∷_}
 use native.Mathlib.Omega.{arith}
 use lib.ListN.{replicate}
-use Rattle.paper.specs.Block.{edition, blockBytes, headerBytes, header}
+use Rattle.paper.specs.Block.{blockBytes, headerBytes, header}
 use Rattle.list_laws.specs.Over.{over-whole}
 use Rattle.block.proofs.Copies.{label-in}
 use borrow.Author.Needs.{needs}
@@ -63,7 +63,7 @@ returns : tie.Need-returns
 unfolding header
 returns c =
     let a = c .before .before .before .before .args in
-    ap (λ (t : List ℕ). edition ∷ a .k ∷ a .levels ∷ a .n ∷ t)
+    ap (λ (t : List ℕ). a .h .edition ∷ a .h .k ∷ a .h .levels ∷ a .h .n ∷ t)
     (label-in (c .before .copy-in .last .0) (a .label .now) (replicate (blockBytes - headerBytes) 0) _ _ _ _ (c .before .copy-in .ensures ∙ over-whole (a .label .now) (replicate 8 0) (omega arith)))
 
 pub headed-spec : {M : Type 1} → statement M

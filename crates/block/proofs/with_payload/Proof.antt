@@ -1,7 +1,7 @@
 -- `with_payload` changes the payload's part alone. Assumes nothing.
 use mathlib.Core.Path.{_∙_}
 use native.Mathlib.Omega.{arith}
-use Rattle.paper.specs.Block.{payloadStart, payloadOf}
+use Rattle.paper.specs.Block.{payloadOf}
 use Rattle.list_laws.specs.Over.{over-whole}
 use Rattle.block.proofs.Copies.{payload-in}
 use borrow.Author.Needs.{needs}
@@ -24,8 +24,8 @@ returns : tie.Need-returns
 unfolding payloadOf
 returns c =
     let a = c .before .before .before .before .args in
-    payload-in payloadStart (a .from) (a .payload .now) (c .before .copy-in .last .0) (omega arith)
-    (c .before .copy-in .ensures ∙ over-whole (a .payload .now) (payloadOf payloadStart (a .from)) (omega arith))
+    payload-in (a .start) (a .from) (a .payload .now) (c .before .copy-in .last .0) (omega arith)
+    (c .before .copy-in .ensures ∙ over-whole (a .payload .now) (payloadOf (a .start) (a .from)) (omega arith))
 
 pub with-payload-spec : {M : Type 1} → statement M
 with-payload-spec =

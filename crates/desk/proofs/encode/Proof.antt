@@ -11,18 +11,18 @@ area-requires c κs = tt
 
 returns : tie.Need-returns
 returns c =
-    input-short _ _ _ _ _ _ _ _ _ _ (c .before .area .ensures) (omega arith)
+    input-short _ _ _ _ _ _ _ _ _ _ _ (c .before .area .ensures) (omega arith)
 
 sub-if2 : tie.Need-sub-if2
 sub-if2 c = search needs
 
 returns-2 : tie.Need-returns-2
 returns-2 c =
-    input-short _ _ _ _ _ _ _ _ _ _ (c .before .before .area .ensures) (omega arith)
+    input-short _ _ _ _ _ _ _ _ _ _ _ (c .before .before .area .ensures) (omega arith)
 
 returns-3 : tie.Need-returns-3
 returns-3 c =
-    numbers-short _ _ _ _ _ _ _ _ _ _ (c .before .before .before .area .ensures) (omega arith) (c .if3 .taken)
+    numbers-short _ _ _ _ _ _ _ _ _ _ _ (c .before .before .before .area .ensures) (omega arith) (c .if3 .taken)
 
 add-end : tie.Need-add-end
 add-end c = search needs
@@ -57,7 +57,7 @@ same-length-3 c = search needs
 
 returns-4 : tie.Need-returns-4
 returns-4 c =
-    encoded-front _ _ _ _ _ _ _ _ _ _ (c .before .before .before .before .before .before .before .before .before .before .before .before .before .area .ensures) _ (omega (arith, c .before .before .before .before .before .before .before .before .before .before .before .before .if1, c .before .before .before .before .before .before .before .before .before .before .before .if2)) (c .before .before .before .before .before .before .before .before .before .before .if3 .left) (c .before .before .before .before .before .encoded .ensures)
+    encoded-front _ _ _ _ _ _ _ _ _ _ _ (c .before .before .before .before .before .before .before .before .before .before .before .before .before .area .ensures) _ (omega (arith, c .before .before .before .before .before .before .before .before .before .before .before .before .if1, c .before .before .before .before .before .before .before .before .before .before .before .if2)) (c .before .before .before .before .before .before .before .before .before .before .if3 .left) (c .before .before .before .before .before .encoded .ensures)
 
 pub encode-spec : {M : Type 1} → statement M
 encode-spec =

@@ -11,7 +11,7 @@ same-length c = search needs
 
 returns : tie.Need-returns
 returns c =
-    forward-refused _ _ _ _ _ _ _ _ _ (c .before .before .before .forward .ensures) (c .if1 .taken)
+    forward-refused _ _ _ _ _ _ _ _ _ _ (c .before .before .before .forward .ensures) (c .if1 .taken)
 
 code-requires : tie.Need-code-requires
 code-requires c κs = tt
@@ -24,7 +24,7 @@ same-length-3 c = search needs
 
 returns-2 : tie.Need-returns-2
 returns-2 c =
-    code-refused _ _ _ _ _ _ _ _ _ (c .before .before .before .before .before .before .before .before .before .before .forward .ensures) (c .before .before .before .before .before .before .before .if1 .left) _ (c .before .before .before .before .code .ensures) (c .if2 .taken)
+    code-refused _ _ _ _ _ _ _ _ _ _ (c .before .before .before .before .before .before .before .before .before .before .forward .ensures) (c .before .before .before .before .before .before .before .if1 .left) _ (c .before .before .before .before .code .ensures) (c .if2 .taken)
 
 write-requires : tie.Need-write-requires
 write-requires c κs = tt
@@ -40,7 +40,7 @@ same-length-6 c = search needs
 
 returns-3 : tie.Need-returns-3
 returns-3 c =
-    encoded-is _ _ _ _ _ _ _ _ _ (c .before .before .before .before .before .before .before .before .before .before .before .before .before .before .before .forward .ensures) (c .before .before .before .before .before .before .before .before .before .before .before .before .if1 .left) _ (c .before .before .before .before .before .before .before .before .before .code .ensures) _ (c .before .before .before .before .before .if2 .left) (c .before .before .write .ensures)
+    encoded-is _ _ _ _ _ _ _ _ _ _ (c .before .before .before .before .before .before .before .before .before .before .before .before .before .before .before .forward .ensures) (c .before .before .before .before .before .before .before .before .before .before .before .before .if1 .left) _ (c .before .before .before .before .before .before .before .before .before .code .ensures) _ (c .before .before .before .before .before .if2 .left) (c .before .before .write .ensures)
 
 pub encoded-spec : {M : Type 1} → statement M
 encoded-spec =

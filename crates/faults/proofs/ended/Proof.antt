@@ -1,3 +1,4 @@
+use mathlib.Core.Path.{refl}
 use Rattle.faults.proofs.Laws.{ended-inside, ended-none, ended-told}
 use Rattle.words.proofs.Laws.{and-inside}
 use borrow.Author.Needs.{needs}
@@ -9,19 +10,19 @@ returns c =
     and-inside _ _ _ (ended-inside _ _ _ _ _) (ended-none _ _ _ _ _ (c .if1 .taken))
 
 slice-aggregate-put-figure : tie.Need-slice-aggregate-put-figure
-slice-aggregate-put-figure c = search needs
+slice-aggregate-put-figure c = refl
 
 put-figure-requires : tie.Need-put-figure-requires
-put-figure-requires c κs = search needs
+put-figure-requires c κs = tt
 
 slice-aggregate-put : tie.Need-slice-aggregate-put
-slice-aggregate-put c = search needs
+slice-aggregate-put c = refl
 
 put-requires : tie.Need-put-requires
-put-requires c κs = search needs
+put-requires c κs = tt
 
 put-told-requires : tie.Need-put-told-requires
-put-told-requires c κs = search needs
+put-told-requires c κs = tt
 
 same-length : tie.Need-same-length
 same-length c = search needs

@@ -1,3 +1,4 @@
+use mathlib.Core.Path.{refl}
 use Rattle.faults.specs.Faults.{fault}
 use borrow.Author.Tests.{eq-eqb, ne-eqb}
 use borrow.Author.Needs.{needs}
@@ -5,10 +6,10 @@ use Rattle.faults.proofs.put_fault.Statement.{statement}
 use Rattle.faults.proofs.put_fault.Tie as tie
 
 slice-aggregate-put : tie.Need-slice-aggregate-put
-slice-aggregate-put c = search needs
+slice-aggregate-put c = refl
 
 put-requires : tie.Need-put-requires
-put-requires c κs = search needs
+put-requires c κs = tt
 
 same-length : tie.Need-same-length
 same-length c = search needs
@@ -19,10 +20,10 @@ returns c =
     rw (eq-eqb _ 8 (c .before .before .before .before .before .if1 .taken)) (c .before .before .put .ensures)
 
 slice-aggregate-put-2 : tie.Need-slice-aggregate-put-2
-slice-aggregate-put-2 c = search needs
+slice-aggregate-put-2 c = refl
 
 put-requires-2 : tie.Need-put-requires-2
-put-requires-2 c κs = search needs
+put-requires-2 c κs = tt
 
 same-length-2 : tie.Need-same-length-2
 same-length-2 c = search needs
@@ -33,10 +34,10 @@ returns-2 c =
     rw (ne-eqb _ 8 (c .before .before .before .before .before .before .if1 .left), eq-eqb _ 9 (c .before .before .before .before .before .if2 .taken)) (c .before .before .put2 .ensures)
 
 slice-aggregate-put-3 : tie.Need-slice-aggregate-put-3
-slice-aggregate-put-3 c = search needs
+slice-aggregate-put-3 c = refl
 
 put-requires-3 : tie.Need-put-requires-3
-put-requires-3 c κs = search needs
+put-requires-3 c κs = tt
 
 same-length-3 : tie.Need-same-length-3
 same-length-3 c = search needs
@@ -47,10 +48,10 @@ returns-3 c =
     rw (ne-eqb _ 8 (c .before .before .before .before .before .before .before .if1 .left), ne-eqb _ 9 (c .before .before .before .before .before .before .if2 .left), eq-eqb _ 0 (c .before .before .before .before .before .if3 .taken)) (c .before .before .put3 .ensures)
 
 slice-aggregate-put-4 : tie.Need-slice-aggregate-put-4
-slice-aggregate-put-4 c = search needs
+slice-aggregate-put-4 c = refl
 
 put-requires-4 : tie.Need-put-requires-4
-put-requires-4 c κs = search needs
+put-requires-4 c κs = tt
 
 same-length-4 : tie.Need-same-length-4
 same-length-4 c = search needs

@@ -1,11 +1,11 @@
 use Rattle.faults.specs.Faults.{labelled}
-use mathlib.Core.Path.{sym, _∙_}
+use mathlib.Core.Path.{refl, sym, _∙_}
 use borrow.Author.Needs.{needs}
 use Rattle.faults.proofs.put_labelled.Statement.{statement}
 use Rattle.faults.proofs.put_labelled.Tie as tie
 
 same-bytes-requires : tie.Need-same-bytes-requires
-same-bytes-requires c κs = search needs
+same-bytes-requires c κs = tt
 
 returns : tie.Need-returns
 unfolding labelled
@@ -13,28 +13,28 @@ returns c =
     rw (sym (c .before .same-bytes .ensures) ∙ c .if1 .taken)
 
 slice-aggregate-put : tie.Need-slice-aggregate-put
-slice-aggregate-put c = search needs
+slice-aggregate-put c = refl
 
 put-requires : tie.Need-put-requires
-put-requires c κs = search needs
+put-requires c κs = tt
 
 put-requires-2 : tie.Need-put-requires-2
-put-requires-2 c κs = search needs
+put-requires-2 c κs = tt
 
 slice-aggregate-put-2 : tie.Need-slice-aggregate-put-2
-slice-aggregate-put-2 c = search needs
+slice-aggregate-put-2 c = refl
 
 put-requires-3 : tie.Need-put-requires-3
-put-requires-3 c κs = search needs
+put-requires-3 c κs = tt
 
 put-requires-4 : tie.Need-put-requires-4
-put-requires-4 c κs = search needs
+put-requires-4 c κs = tt
 
 slice-aggregate-put-3 : tie.Need-slice-aggregate-put-3
-slice-aggregate-put-3 c = search needs
+slice-aggregate-put-3 c = refl
 
 put-requires-5 : tie.Need-put-requires-5
-put-requires-5 c κs = search needs
+put-requires-5 c κs = tt
 
 same-length : tie.Need-same-length
 same-length c = search needs

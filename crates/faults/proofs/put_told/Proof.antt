@@ -5,7 +5,7 @@ use Rattle.faults.proofs.put_told.Statement.{statement}
 use Rattle.faults.proofs.put_told.Tie as tie
 
 put-fault-requires : tie.Need-put-fault-requires
-put-fault-requires c κs = search needs
+put-fault-requires c κs = tt
 
 same-length : tie.Need-same-length
 same-length c = search needs

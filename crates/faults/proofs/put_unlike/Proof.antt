@@ -1,11 +1,11 @@
 use Rattle.faults.specs.Faults.{unlike}
-use mathlib.Core.Path.{sym, _∙_}
+use mathlib.Core.Path.{refl, sym, _∙_}
 use borrow.Author.Needs.{needs}
 use Rattle.faults.proofs.put_unlike.Statement.{statement}
 use Rattle.faults.proofs.put_unlike.Tie as tie
 
 same-bytes-requires : tie.Need-same-bytes-requires
-same-bytes-requires c κs = search needs
+same-bytes-requires c κs = tt
 
 returns : tie.Need-returns
 unfolding unlike
@@ -13,10 +13,10 @@ returns c =
     rw (sym (c .before .same-bytes .ensures) ∙ c .if1 .taken)
 
 slice-aggregate-put : tie.Need-slice-aggregate-put
-slice-aggregate-put c = search needs
+slice-aggregate-put c = refl
 
 put-requires : tie.Need-put-requires
-put-requires c κs = search needs
+put-requires c κs = tt
 
 same-length : tie.Need-same-length
 same-length c = search needs

@@ -1,25 +1,26 @@
+use mathlib.Core.Path.{refl}
 use Rattle.faults.specs.Faults.{refusedOf}
 use borrow.Author.Needs.{needs}
 use Rattle.faults.proofs.refused.Statement.{statement}
 use Rattle.faults.proofs.refused.Tie as tie
 
 slice-aggregate-put : tie.Need-slice-aggregate-put
-slice-aggregate-put c = search needs
+slice-aggregate-put c = refl
 
 put-requires : tie.Need-put-requires
-put-requires c κs = search needs
+put-requires c κs = tt
 
 put-requires-2 : tie.Need-put-requires-2
-put-requires-2 c κs = search needs
+put-requires-2 c κs = tt
 
 slice-aggregate-put-2 : tie.Need-slice-aggregate-put-2
-slice-aggregate-put-2 c = search needs
+slice-aggregate-put-2 c = refl
 
 put-requires-3 : tie.Need-put-requires-3
-put-requires-3 c κs = search needs
+put-requires-3 c κs = tt
 
 put-told-requires : tie.Need-put-told-requires
-put-told-requires c κs = search needs
+put-told-requires c κs = tt
 
 same-length : tie.Need-same-length
 same-length c = search needs

@@ -4,13 +4,13 @@ use native.Mathlib.Omega.{arith}
 use lib.ListN.{length, drop}
 use borrow.Author.Tests.{not-true, not-false}
 use Rattle.pgm.proofs.Steps.{number-stops, number-goes, number-ends, small}
-use Rattle.pgm.specs.Header.{numberFrom}
+use Rattle.pgm.specs.Header.{mostNumber, numberFrom}
 use borrow.Author.Needs.{needs}
 use Rattle.pgm.proofs.number_from.Statement.{statement}
 use Rattle.pgm.proofs.number_from.Tie as tie
 
 abbrev Inv-loop : tie.InvT-loop
-Inv-loop bytes at value₀ i₀ value i = (value ≤ 999999) × (numberFrom value i (drop i bytes) ≡ numberFrom 0 at (drop at bytes))
+Inv-loop bytes at value₀ i₀ value i = (value ≤ mostNumber) × (numberFrom value i (drop i bytes) ≡ numberFrom 0 at (drop at bytes))
 
 abbrev μ-loop : tie.MeasureT-loop
 μ-loop bytes at value₀ i₀ value i = length bytes - i

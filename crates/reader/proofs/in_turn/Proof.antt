@@ -1,10 +1,7 @@
 -- `in_turn`: three tests, each by what its callee ensures.
-use mathlib.Core.List.{List}
-use mathlib.Core.Path.{sym, ap, _∙_}
-use Prim.Native.Nat.{ℕ}
+use mathlib.Core.Path.{sym, _∙_}
 use native.Mathlib.Omega.{arith}
 use borrow.Author.Tests.{eq-eqb, ne-eqb, not-true, not-false}
-use Rattle.paper.specs.Block.{sameBytes}
 use Rattle.paper.specs.Record.{inTurn}
 use Rattle.reader.proofs.Turn.{first-fails, second-fails, third-decides}
 use Rattle.reader.proofs.in_turn.Statement.{statement}
@@ -18,16 +15,13 @@ unfolding inTurn
 returns c =
     first-fails _ _ (ne-eqb _ _ (λ e. c .if1 .taken (c .before .pair-at .ensures ∙ e)))
 
-said-by-requires : tie.Need-said-by-requires
-said-by-requires c κs = omega arith
-
-same-bytes-requires : tie.Need-same-bytes-requires
-same-bytes-requires c κs = omega arith
+agree-requires : tie.Need-agree-requires
+agree-requires c κs = (omega arith, c .before .before .before .before .before .pre .0)
 
 returns-2 : tie.Need-returns-2
 unfolding inTurn
 returns-2 c =
-    second-fails _ (eq-eqb _ _ (sym (c .before .before .before .before .pair-at .ensures) ∙ c .before .before .before .if1 .left)) (sym (c .before .same-bytes .ensures ∙ ap (λ (b : List ℕ). sameBytes b (c .before .before .before .before .before .before .before .before .args .first .now)) (c .before .before .said-by .ensures)) ∙ not-true _ (c .if2 .taken))
+    second-fails _ (eq-eqb _ _ (sym (c .before .before .before .pair-at .ensures) ∙ c .before .before .if1 .left)) (sym (c .before .agree .ensures) ∙ not-true _ (c .if2 .taken))
 
 sub-name : tie.Need-sub-name
 sub-name c = omega arith
@@ -38,13 +32,13 @@ part-name-start c = omega arith
 part-name-end : tie.Need-part-name-end
 part-name-end c = omega arith
 
-same-bytes-requires-2 : tie.Need-same-bytes-requires-2
-same-bytes-requires-2 c κs = omega arith
+same-bytes-requires : tie.Need-same-bytes-requires
+same-bytes-requires c κs = omega arith
 
 returns-3 : tie.Need-returns-3
 unfolding inTurn
 returns-3 c =
-    c .same-bytes2 .ensures ∙ third-decides _ (eq-eqb _ _ (sym (c .before .before .before .before .before .before .pair-at .ensures) ∙ c .before .before .before .before .before .if1 .left)) (sym (c .before .before .before .same-bytes .ensures ∙ ap (λ (b : List ℕ). sameBytes b (c .before .before .before .before .before .before .before .before .before .before .args .first .now)) (c .before .before .before .before .said-by .ensures)) ∙ not-false _ (c .before .before .if2 .left))
+    c .same-bytes .ensures ∙ third-decides _ (eq-eqb _ _ (sym (c .before .before .before .before .before .pair-at .ensures) ∙ c .before .before .before .before .if1 .left)) (sym (c .before .before .before .agree .ensures) ∙ not-false _ (c .before .before .if2 .left))
 
 pub in-turn-spec : {M : Type 1} → statement M
 in-turn-spec =
@@ -52,11 +46,10 @@ in-turn-spec =
     (tie.spec
     pair-at-requires
     returns
-    said-by-requires
-    same-bytes-requires
+    agree-requires
     returns-2
     sub-name
     part-name-start
     part-name-end
-    same-bytes-requires-2
+    same-bytes-requires
     returns-3)

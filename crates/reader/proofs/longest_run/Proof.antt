@@ -1,16 +1,18 @@
 -- `longest_run`. The invariant: the run from block i on is the whole run.
 use Prim.Native.Nat.{_≤_, _-_, _/_}
-use mathlib.Core.Path.{_≡_, ap, _∙_}
+use mathlib.Core.Path.{_≡_, _∙_}
 use native.Mathlib.Omega.{arith}
 use lib.ListN.{length}
-use Rattle.paper.specs.Block.{blockBytes, payloadStart, countOf}
-use Rattle.paper.specs.Record.{blockAt, refusalAt, runOf, runFrom}
-use Rattle.reader.proofs.Turn.{judged-at, run-start, run-fails, run-short, run-more, run-ends}
+use borrow.Author.Tests.{not-true, not-false}
+use Rattle.paper.specs.Block.{blockBytes, editionOf}
+use Rattle.paper.specs.Record.{blockAt, refusalAt, isFull, startIn, runOf, runFrom}
+use Rattle.block.proofs.Editions.{start-most}
+use Rattle.reader.proofs.Turn.{judged-at, full-at, run-start, run-fails, run-short, run-more, run-ends}
 use Rattle.reader.proofs.longest_run.Statement.{statement}
 use Rattle.reader.proofs.longest_run.Tie as tie
 
 abbrev Inv-loop : tie.InvT-loop
-Inv-loop blocks label whole i₀ i = (i ≤ whole) × (runOf payloadStart blocks label ≡ runFrom payloadStart blocks label (whole - i) i)
+Inv-loop blocks label whole i₀ i = (i ≤ whole) × (runOf blocks label ≡ runFrom (startIn blocks) (refusalAt blocks label) blocks (whole - i) i)
 
 abbrev μ-loop : tie.MeasureT-loop
 μ-loop blocks label whole i₀ i = whole - i
@@ -18,13 +20,10 @@ abbrev μ-loop : tie.MeasureT-loop
 loop-holds : tie.Need-loop-holds Inv-loop μ-loop
 loop-holds c =
     let args = c .before .before .args in
-    (omega arith, run-start payloadStart (args .blocks .now) (args .label .now))
+    (omega arith, run-start (args .blocks .now) (args .label .now))
 
 block-at-requires : tie.Need-block-at-requires Inv-loop μ-loop
 block-at-requires c κs = omega arith
-
-said-by-requires : tie.Need-said-by-requires Inv-loop μ-loop
-said-by-requires c κs = omega arith
 
 block-at-requires-2 : tie.Need-block-at-requires-2 Inv-loop μ-loop
 block-at-requires-2 c κs = omega arith
@@ -32,31 +31,33 @@ block-at-requires-2 c κs = omega arith
 turn-refusal-requires : tie.Need-turn-refusal-requires Inv-loop μ-loop
 turn-refusal-requires c κs = omega arith
 
--- block i judged in its turn, and its payload bits
-judged : (c : tie.After-turn-refusal Inv-loop μ-loop) → c .turn-refusal .result ≡ refusalAt payloadStart (c .before .before .before .before .before .before .before .before .args .blocks .now) (c .before .before .before .before .before .before .before .before .args .label .now) (c .before .before .before .before .before .loop .i)
-judged c =
-    judged-at payloadStart (c .before .before .before .before .before .before .before .before .args .blocks .now) (c .before .before .before .before .before .before .before .before .args .label .now) (c .before .before .before .before .before .loop .i) (c .before .before .before .block-at .ensures .0) (c .before .before .said-by .ensures) (c .before .block-at2 .ensures .0) (c .turn-refusal .ensures)
+-- block i judged in its turn, and whether it is full
+judged : (c : tie.After-turn-refusal Inv-loop μ-loop) → c .turn-refusal .result ≡ refusalAt (c .before .before .before .before .before .before .before .args .blocks .now) (c .before .before .before .before .before .before .before .args .label .now) (c .before .before .before .before .loop .i)
+judged c = judged-at (c .before .before .before .before .before .before .before .args .blocks .now) (c .before .before .before .before .before .before .before .args .label .now) (c .before .before .before .before .loop .i) (c .before .before .block-at .ensures .0) (c .before .block-at2 .ensures .0) (c .turn-refusal .ensures)
 
-counted : (c : tie.After-pair-at Inv-loop μ-loop) → c .pair-at .result ≡ countOf (blockAt (c .before .before .before .before .before .before .before .before .before .before .args .blocks .now) (c .before .before .before .before .before .before .before .loop .i))
-counted c = c .pair-at .ensures ∙ ap countOf (c .before .before .before .block-at2 .ensures .0)
+full : (c : tie.After-is-full Inv-loop μ-loop) → isFull (startIn (c .before .before .before .before .before .before .before .before .before .before .args .blocks .now)) (blockAt (c .before .before .before .before .before .before .before .before .before .before .args .blocks .now) (c .before .before .before .before .before .before .before .loop .i)) ≡ c .is-full .result
+full c = full-at (c .before .before .before .before .before .before .before .before .before .before .args .blocks .now) (c .before .before .before .before .before .before .before .loop .i) (c .before .before .before .before .before .block-at .ensures .0) (c .before .before .before .before .block-at2 .ensures .0) (c .before .start-in .ensures) (c .is-full .ensures)
 
 returns : tie.Need-returns Inv-loop μ-loop
 returns c =
-    let args = c .before .before .before .before .before .before .before .before .before .args in
-    let at = c .before .before .before .before .before .before .loop in
-    at .inv .1 ∙ run-fails payloadStart (args .blocks .now) (args .label .now) (length (args .blocks .now) / blockBytes) (at .i) (omega arith) (c .before .turn-refusal .result) (judged (c .before)) (omega arith)
+    let s = c .before .before .before .before .before .before .before .before .args .blocks .now in
+    let at = c .before .before .before .before .before .loop in
+    at .inv .1 ∙ run-fails (startIn s) (refusalAt s _) s (length s / blockBytes) (at .i) (omega arith) _ (judged (c .before)) (omega arith)
 
-pair-at-requires : tie.Need-pair-at-requires Inv-loop μ-loop
-pair-at-requires c κs = omega arith
+start-in-requires : tie.Need-start-in-requires Inv-loop μ-loop
+start-in-requires c κs = omega arith
+
+is-full-requires : tie.Need-is-full-requires Inv-loop μ-loop
+is-full-requires c κs = (omega arith, omega (arith, c .start-in .ensures, start-most (editionOf (c .before .before .before .before .block-at .result .now))))
 
 add-t12 : tie.Need-add-t12 Inv-loop μ-loop
 add-t12 c = omega arith
 
 returns-2 : tie.Need-returns-2 Inv-loop μ-loop
 returns-2 c =
-    let args = c .before .before .before .before .before .before .before .before .before .before .before .args in
+    let s = c .before .before .before .before .before .before .before .before .before .before .before .args .blocks .now in
     let at = c .before .before .before .before .before .before .before .before .loop in
-    at .inv .1 ∙ run-short payloadStart (args .blocks .now) (args .label .now) (length (args .blocks .now) / blockBytes) (at .i) (omega arith) (c .before .before .before .turn-refusal .result) (c .before .pair-at .result) (judged (c .before .before .before)) (omega arith) (counted (c .before)) (c .if2 .taken)
+    at .inv .1 ∙ run-short (startIn s) (refusalAt s _) s (length s / blockBytes) (at .i) (omega arith) _ (judged (c .before .before .before .before)) (omega arith) (full (c .before) ∙ not-true _ (c .if2 .taken))
 
 add-i : tie.Need-add-i Inv-loop μ-loop
 add-i c = omega arith
@@ -66,15 +67,15 @@ loop-less c = omega arith
 
 loop-again : tie.Need-loop-again Inv-loop μ-loop
 loop-again c =
-    let args = c .before .before .before .before .before .before .before .before .before .before .before .args in
+    let s = c .before .before .before .before .before .before .before .before .before .before .before .args .blocks .now in
     let at = c .before .before .before .before .before .before .before .before .loop in
-    (omega arith, at .inv .1 ∙ run-more payloadStart (args .blocks .now) (args .label .now) (length (args .blocks .now) / blockBytes) (at .i) (omega arith) (c .before .before .before .turn-refusal .result) (c .before .pair-at .result) (judged (c .before .before .before)) (omega arith) (counted (c .before)) (c .if2 .left))
+    (omega arith, at .inv .1 ∙ run-more (startIn s) (refusalAt s _) s (length s / blockBytes) (at .i) (omega arith) _ (judged (c .before .before .before .before)) (omega arith) (full (c .before) ∙ not-false _ (c .if2 .left)))
 
 returns-3 : tie.Need-returns-3 Inv-loop μ-loop
 returns-3 c =
-    let args = c .before .before .before .before .args in
+    let s = c .before .before .before .before .args .blocks .now in
     let at = c .before .loop in
-    at .inv .1 ∙ run-ends payloadStart (args .blocks .now) (args .label .now) (length (args .blocks .now) / blockBytes) (at .i) (omega arith)
+    at .inv .1 ∙ run-ends (startIn s) (refusalAt s _) s (length s / blockBytes) (at .i) (omega arith)
 
 pub longest-run-spec : {M : Type 1} → statement M
 longest-run-spec =
@@ -84,11 +85,11 @@ longest-run-spec =
     μ-loop
     loop-holds
     block-at-requires
-    said-by-requires
     block-at-requires-2
     turn-refusal-requires
     returns
-    pair-at-requires
+    start-in-requires
+    is-full-requires
     add-t12
     returns-2
     add-i

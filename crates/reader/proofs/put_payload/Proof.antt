@@ -1,6 +1,6 @@
 -- `put_payload` covers its place with the first n payload bytes.
 use native.Mathlib.Omega.{arith}
-use Rattle.paper.specs.Block.{payloadStart, payloadOf}
+use Rattle.paper.specs.Block.{payloadOf}
 use Rattle.reader.proofs.Payload.{payload-put}
 use Rattle.reader.proofs.put_payload.Statement.{statement}
 use Rattle.reader.proofs.put_payload.Tie as tie
@@ -17,8 +17,11 @@ part-payload-start c = omega arith
 part-payload-end : tie.Need-part-payload-end
 part-payload-end c = omega arith
 
-mul-start : tie.Need-mul-start
-mul-start c = omega arith
+sub-place : tie.Need-sub-place
+sub-place c = omega arith
+
+mul-place : tie.Need-mul-place
+mul-place c = omega arith
 
 add-end : tie.Need-add-end
 add-end c = omega arith
@@ -52,7 +55,7 @@ unfolding payloadOf
 returns c =
     let S = c .before .before .before .before .before .before .before .before .before in
     let block = c .before .before .before .before .before .before .block-at in
-    payload-put payloadStart (S .args .blocks .now) (S .args .room .now) (c .before .before .copy-in .last .0) (S .args .i) (S .args .n) (block .result .now) (block .ensures .0) (S .pre .0) (S .pre .1 .0) (S .pre .1 .1) (c .before .before .copy-in .ensures)
+    payload-put (S .args .start) (S .args .blocks .now) (S .args .room .now) (c .before .before .copy-in .last .0) (S .args .i) (S .args .n) (block .result .now) (block .ensures .0) (S .pre .1 .0) (S .pre .1 .1 .0) (S .pre .1 .1 .1) (c .before .before .copy-in .ensures)
 
 pub put-payload-spec : {M : Type 1} → statement M
 put-payload-spec =
@@ -62,7 +65,8 @@ put-payload-spec =
     sub-payload
     part-payload-start
     part-payload-end
-    mul-start
+    sub-place
+    mul-place
     add-end
     sub-copy-in
     part-copy-in-start

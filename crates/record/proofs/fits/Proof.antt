@@ -1,13 +1,14 @@
 -- `fits`: three conditions, one after the other; b is small enough to count its blocks once it is within the bound.
 use Rattle.paper.specs.Sizes.{mostBits}
-use Rattle.paper.specs.Block.{blockBytes}
+use Rattle.paper.specs.Block.{blockBytes, startOf, payloadBits, numberedBlocks}
 use Rattle.record_laws.specs.BothJobs.{most-bits}
 use Rattle.reader.proofs.Turn.{first-fails, second-fails, third-decides}
+use Rattle.record.proofs.Writing.{blocks-numbered}
 use borrow.Author.Tests.{le-leb, lt-leb, not-true, not-false}
 use lib.Dec.{leb}
 use native.Mathlib.Omega.{arith}
 use mathlib.Core.Path.{sym, ap, _∙_}
-use Prim.Native.Nat.{ℕ, _*_}
+use Prim.Native.Nat.{ℕ, _*_, _≤_}
 use Rattle.record.proofs.fits.Statement.{statement}
 use Rattle.record.proofs.fits.Tie as tie
 
@@ -25,12 +26,16 @@ returns-2 : tie.Need-returns-2
 returns-2 c =
     second-fails _ (sym (c .before .before .before .lends .ensures) ∙ not-false _ (c .before .before .if1 .left)) (lt-leb (c .before .before .before .before .args .b) (mostBits (c .before .before .before .before .args .k) (c .before .before .before .before .args .n)) (omega arith))
 
+-- b is within the bound, and so within what numbered blocks hold
+few : (c : tie.Else2) → c .before .before .before .before .args .b ≤ payloadBits (startOf (c .before .before .before .before .args .edition)) * numberedBlocks
+few c =
+    omega (arith, most-bits (c .before .before .before .before .args .edition) (c .before .before .before .before .args .k) (c .before .before .before .before .args .n) (c .before .before .before .before .pre .0) (c .before .before .before .before .pre .1))
+
 blocks-for-requires : tie.Need-blocks-for-requires
-blocks-for-requires c κs =
-    omega (arith, most-bits (c .before .before .before .before .args .k) (c .before .before .before .before .args .n) (c .before .before .before .before .pre .0) (c .before .before .before .before .pre .1))
+blocks-for-requires c κs = few c
 
 mul-result : tie.Need-mul-result
-mul-result c = omega arith
+mul-result c = omega (arith, c .blocks-for .ensures, blocks-numbered (c .before .before .before .before .before .args .edition) (c .before .before .before .before .before .args .b) (few (c .before)))
 
 returns-3 : tie.Need-returns-3
 returns-3 c =

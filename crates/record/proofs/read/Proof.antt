@@ -1,9 +1,8 @@
 -- `read` is the reading job: refused by rows 6 and 7 or by block 0, or done by what the run keeps.
-use Rattle.record.proofs.Reading.{lentRefusal, lent-refused, lent-holds, read-refused, Usable, kept-usable, none-kept-refused, read-done}
-use Prim.Native.Nat.{_<_}
+use Rattle.record.proofs.Reading.{lentRows, lent-refused, lent-holds, read-refused, Usable, kept-usable, none-kept-refused, read-done}
 use lib.ListN.{length}
 use native.Mathlib.Omega.{arith}
-use mathlib.Core.Path.{_≡_, sym, _∙_}
+use mathlib.Core.Path.{_≡_, refl, sym, _∙_}
 use Rattle.record.proofs.RefusalRows.{rows-judged}
 use Rattle.record.proofs.read.Statement.{statement}
 use Rattle.record.proofs.read.Tie as tie
@@ -23,12 +22,12 @@ refused-requires c κs = omega arith
 returns : tie.Need-returns
 returns c =
     let args = c .before .before .before .before .before .before .before .before .args in
-    let judged = rows-judged (c .before .before .rows .ensures) (c .before .before .before .before .holds .ensures) (c .before .before .before .is-label .ensures) in
+    let judged = rows-judged (c .before .before .rows .ensures) (c .before .before .before .before .holds .ensures) (c .before .before .before .is-label .ensures) refl in
     read-refused (args .blocks .now) (args .label .now) (args .room .now) (c .before .before .rows .result) (lent-refused (args .blocks .now) (args .label .now) (args .room .now) judged (omega arith)) (omega arith) ∙ c .refused .ensures (args .room .now)
 
 -- rows 6 and 7 do not apply
-passed : (c : tie.Else1) → lentRefusal (length (c .before .before .before .before .before .before .before .args .blocks .now)) (c .before .before .before .before .before .before .before .args .label .now) (length (c .before .before .before .before .before .before .before .args .room .now)) ≡ 0
-passed c = sym (rows-judged (c .before .rows .ensures) (c .before .before .before .holds .ensures) (c .before .before .is-label .ensures)) ∙ omega arith
+passed : (c : tie.Else1) → lentRows (length (c .before .before .before .before .before .before .before .args .blocks .now)) (c .before .before .before .before .before .before .before .args .label .now) (length (c .before .before .before .before .before .before .before .args .room .now)) ≡ 0
+passed c = sym (rows-judged (c .before .rows .ensures) (c .before .before .before .holds .ensures) (c .before .before .is-label .ensures) refl) ∙ omega arith
 
 longest-run-requires : tie.Need-longest-run-requires
 longest-run-requires c κs = omega arith
@@ -60,43 +59,22 @@ copy-kept-requires c κs =
     let bits = c .before .bits-kept .ensures in
     (omega arith, (ok .whole, (lent-holds (args .blocks .now) (args .label .now) (args .room .now) (passed (c .before .before .before .before .before)) .1, (bits, (omega (arith, ok .most, bits), ok .few)))))
 
--- byte 3 is there, and those before it
-header : (c : tie.Else1) → 3 < length (c .before .before .before .before .before .before .before .args .blocks .now)
-header c =
-    let args = c .before .before .before .before .before .before .before .args in
-    omega (arith, lent-holds (args .blocks .now) (args .label .now) (args .room .now) (passed c) .0)
-
-shared-slice-read-t15 : tie.Need-shared-slice-read-t15
-shared-slice-read-t15 c = omega (arith, header (c .before .before .before .before .before .before .before .before .before))
-
-cast-t16 : tie.Need-cast-t16
-cast-t16 c =
-    record { fits = omega (arith, c .before .before .before .before .before .before .before .before .before .before .before .before .before .before .before .shared-slice-known .given 1) }
-
-shared-slice-read-t18 : tie.Need-shared-slice-read-t18
-shared-slice-read-t18 c = omega (arith, header (c .before .before .before .before .before .before .before .before .before .before))
-
-cast-t19 : tie.Need-cast-t19
-cast-t19 c =
-    record { fits = omega (arith, c .before .before .before .before .before .before .before .before .before .before .before .before .before .before .before .before .shared-slice-known .given 2) }
-
-shared-slice-read-t21 : tie.Need-shared-slice-read-t21
-shared-slice-read-t21 c = omega (arith, header (c .before .before .before .before .before .before .before .before .before .before .before))
-
-cast-t22 : tie.Need-cast-t22
-cast-t22 c =
-    record { fits = omega (arith, c .before .before .before .before .before .before .before .before .before .before .before .before .before .before .before .before .before .shared-slice-known .given 3) }
+told-requires : tie.Need-told-requires
+told-requires c κs =
+    let args = c .before .before .before .before .before .before .before .before .before .before .before .before .before .before .before .args in
+    omega (arith, lent-holds (args .blocks .now) (args .label .now) (args .room .now) (passed (c .before .before .before .before .before .before .before .before)) .0)
 
 same-length : tie.Need-same-length
 same-length c = omega arith
 
 returns-3 : tie.Need-returns-3
 returns-3 c =
-    let args = c .before .before .before .before .before .before .before .before .before .before .before .before .before .before .before .before .before .before .args in
-    let run = c .before .before .before .before .before .before .before .before .before .before .longest-run in
-    let bits = c .before .before .before .before .before .before .before .bits-kept in
-    let copied = c .before .before .before .before .before .copy-kept in
-    read-done (args .blocks .now) (args .label .now) (args .room .now) (run .result .kept) (run .result .ended) (run .ensures) (passed (c .before .before .before .before .before .before .before .before .before .before .before)) (bits .result) (copied .last .0) (omega arith) (bits .ensures) (copied .ensures)
+    let args = c .before .before .before .before .before .before .before .before .before .before .before .before .before .before .before .before .args in
+    let run = c .before .before .before .before .before .before .before .before .longest-run in
+    let bits = c .before .before .before .before .before .bits-kept in
+    let copied = c .before .before .before .copy-kept in
+    read-done (args .blocks .now) (args .label .now) (args .room .now) (run .result .kept) (run .result .ended) (run .ensures) (passed (c .before .before .before .before .before .before .before .before .before)) (bits .result) (copied .last .0) (omega arith) (bits .ensures) (copied .ensures)
+    ∙ c .told .ensures (copied .last .0)
 
 pub read-spec : {M : Type 1} → statement M
 read-spec =
@@ -112,11 +90,6 @@ read-spec =
     returns-2
     bits-kept-requires
     copy-kept-requires
-    shared-slice-read-t15
-    cast-t16
-    shared-slice-read-t18
-    cast-t19
-    shared-slice-read-t21
-    cast-t22
+    told-requires
     same-length
     returns-3)

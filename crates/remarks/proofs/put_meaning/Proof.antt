@@ -48,6 +48,12 @@ slice-aggregate-put-7 c = refl
 put-requires-7 : tie.Need-put-requires-7
 put-requires-7 c κs = tt
 
+slice-aggregate-put-8 : tie.Need-slice-aggregate-put-8
+slice-aggregate-put-8 c = refl
+
+put-requires-8 : tie.Need-put-requires-8
+put-requires-8 c κs = tt
+
 same-length : tie.Need-same-length
 same-length c = search needs
 
@@ -97,8 +103,15 @@ returns-7 : tie.Need-returns-7
 unfolding meanings
 returns-7 c = rw (c .before .before .before .before .before .match .keys7) (c .before .before .put7 .ensures)
 
+same-length-8 : tie.Need-same-length-8
+same-length-8 c = search needs
+
 returns-8 : tie.Need-returns-8
-returns-8 c = let r = c .match .rest in rw (unmeant _ (r .0 .0 .0 .0 .0 .0 .1) (r .0 .0 .0 .0 .0 .1) (r .0 .0 .0 .0 .1) (r .0 .0 .0 .1) (r .0 .0 .1) (r .0 .1) (r .1)) (put-nothing _)
+unfolding meanings
+returns-8 c = rw (c .before .before .before .before .before .match .keys8) (c .before .before .put8 .ensures)
+
+returns-9 : tie.Need-returns-9
+returns-9 c = let r = c .match .rest in rw (unmeant _ (r .0 .0 .0 .0 .0 .0 .0 .1) (r .0 .0 .0 .0 .0 .0 .1) (r .0 .0 .0 .0 .0 .1) (r .0 .0 .0 .0 .1) (r .0 .0 .0 .1) (r .0 .0 .1) (r .0 .1) (r .1)) (put-nothing _)
 
 pub put-meaning-spec : {M : Type 1} → statement M
 put-meaning-spec =
@@ -118,6 +131,8 @@ put-meaning-spec =
     put-requires-6
     slice-aggregate-put-7
     put-requires-7
+    slice-aggregate-put-8
+    put-requires-8
     same-length
     returns
     same-length-2
@@ -132,4 +147,6 @@ put-meaning-spec =
     returns-6
     same-length-7
     returns-7
-    returns-8)
+    same-length-8
+    returns-8
+    returns-9)

@@ -1,3 +1,4 @@
+use mathlib.Core.Path.{refl}
 use native.Mathlib.Omega.{arith}
 use Rattle.verdict.specs.Verdict.{promiseOf}
 use Rattle.words.proofs.Laws.{and-inside}
@@ -7,49 +8,49 @@ use Rattle.verdict.proofs.promise.Statement.{statement}
 use Rattle.verdict.proofs.promise.Tie as tie
 
 limit-requires : tie.Need-limit-requires
-limit-requires c κs = search needs
+limit-requires c κs = tt
 
 put-requires : tie.Need-put-requires
-put-requires c κs = search needs
+put-requires c κs = tt
 
 slice-aggregate-put : tie.Need-slice-aggregate-put
-slice-aggregate-put c = search needs
+slice-aggregate-put c = refl
 
 put-requires-2 : tie.Need-put-requires-2
-put-requires-2 c κs = search needs
+put-requires-2 c κs = tt
 
 put-word-requires : tie.Need-put-word-requires
-put-word-requires c κs = search needs
+put-word-requires c κs = tt
 
 slice-aggregate-put-figure : tie.Need-slice-aggregate-put-figure
-slice-aggregate-put-figure c = search needs
+slice-aggregate-put-figure c = refl
 
 put-figure-requires : tie.Need-put-figure-requires
-put-figure-requires c κs = search needs
+put-figure-requires c κs = tt
 
 slice-aggregate-put-of-side : tie.Need-slice-aggregate-put-of-side
-slice-aggregate-put-of-side c = search needs
+slice-aggregate-put-of-side c = refl
 
 put-of-side-requires : tie.Need-put-of-side-requires
-put-of-side-requires c κs = search needs
+put-of-side-requires c κs = tt
 
 slice-aggregate-put-figure-2 : tie.Need-slice-aggregate-put-figure-2
-slice-aggregate-put-figure-2 c = search needs
+slice-aggregate-put-figure-2 c = refl
 
 cast-put-figure : tie.Need-cast-put-figure
 cast-put-figure c = search needs
 
 put-figure-requires-2 : tie.Need-put-figure-requires-2
-put-figure-requires-2 c κs = search needs
+put-figure-requires-2 c κs = tt
 
 slice-aggregate-put-either : tie.Need-slice-aggregate-put-either
-slice-aggregate-put-either c = search needs
+slice-aggregate-put-either c = refl
 
 slice-aggregate-put-either-2 : tie.Need-slice-aggregate-put-either-2
-slice-aggregate-put-either-2 c = search needs
+slice-aggregate-put-either-2 c = refl
 
 put-either-requires : tie.Need-put-either-requires
-put-either-requires c κs = search needs
+put-either-requires c κs = tt
 
 same-length : tie.Need-same-length
 same-length c =

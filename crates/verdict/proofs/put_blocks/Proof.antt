@@ -1,34 +1,32 @@
+use mathlib.Core.Path.{refl}
 use Rattle.verdict.specs.Verdict.{counted, expected, plural}
 use borrow.Author.Needs.{needs}
 use Rattle.verdict.proofs.put_blocks.Statement.{statement}
 use Rattle.verdict.proofs.put_blocks.Tie as tie
 
-slice-aggregate-put-figure : tie.Need-slice-aggregate-put-figure
-slice-aggregate-put-figure c = search needs
-
-put-figure-requires : tie.Need-put-figure-requires
-put-figure-requires c κs = search needs
+put-number-requires : tie.Need-put-number-requires
+put-number-requires c κs = tt
 
 slice-aggregate-put-either : tie.Need-slice-aggregate-put-either
-slice-aggregate-put-either c = search needs
+slice-aggregate-put-either c = refl
 
 slice-aggregate-put-either-2 : tie.Need-slice-aggregate-put-either-2
-slice-aggregate-put-either-2 c = search needs
+slice-aggregate-put-either-2 c = refl
 
 put-either-requires : tie.Need-put-either-requires
-put-either-requires c κs = search needs
+put-either-requires c κs = tt
 
 awaits-more-requires : tie.Need-awaits-more-requires
-awaits-more-requires c κs = search needs
+awaits-more-requires c κs = tt
 
 slice-aggregate-put-either-3 : tie.Need-slice-aggregate-put-either-3
-slice-aggregate-put-either-3 c = search needs
+slice-aggregate-put-either-3 c = refl
 
 slice-aggregate-put-either-4 : tie.Need-slice-aggregate-put-either-4
-slice-aggregate-put-either-4 c = search needs
+slice-aggregate-put-either-4 c = refl
 
 put-either-requires-2 : tie.Need-put-either-requires-2
-put-either-requires-2 c κs = search needs
+put-either-requires-2 c κs = tt
 
 same-length : tie.Need-same-length
 same-length c = search needs
@@ -36,14 +34,13 @@ same-length c = search needs
 returns : tie.Need-returns
 unfolding counted plural expected
 returns c =
-    rw (c .before .before .before .before .before .before .before .before .before .before .before .before .before .before .before .put-figure .ensures, c .before .before .before .before .before .before .before .before .before .put-either .ensures, ← c .before .before .before .before .before .before .awaits-more .ensures) (c .before .before .put-either2 .ensures)
+    rw (c .before .before .before .before .before .before .before .before .before .before .before .before .before .before .before .put-number .ensures, c .before .before .before .before .before .before .before .before .before .put-either .ensures, ← c .before .before .before .before .before .before .awaits-more .ensures) (c .before .before .put-either2 .ensures)
 
 pub put-blocks-spec : {M : Type 1} → statement M
 put-blocks-spec =
     tie.close
     (tie.spec
-    slice-aggregate-put-figure
-    put-figure-requires
+    put-number-requires
     slice-aggregate-put-either
     slice-aggregate-put-either-2
     put-either-requires

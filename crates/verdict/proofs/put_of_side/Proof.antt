@@ -12,10 +12,10 @@ returns c =
     rw (thumbnail-unsaid _ _ (c .if1 .taken), thumbnail-unsaid _ (figure (sideOf (c .before .before .before .args .k))) (c .if1 .taken)) (put-nothing _ ∙ put-nothing _)
 
 side-requires : tie.Need-side-requires
-side-requires c κs = search needs
+side-requires c κs = tt
 
 put-figure-requires : tie.Need-put-figure-requires
-put-figure-requires c κs = search needs
+put-figure-requires c κs = tt
 
 same-length : tie.Need-same-length
 same-length c = search needs

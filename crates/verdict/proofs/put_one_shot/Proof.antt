@@ -1,16 +1,17 @@
+use mathlib.Core.Path.{refl}
 use Rattle.verdict.specs.Verdict.{oneShot}
 use borrow.Author.Needs.{needs}
 use Rattle.verdict.proofs.put_one_shot.Statement.{statement}
 use Rattle.verdict.proofs.put_one_shot.Tie as tie
 
 slice-aggregate-put-either : tie.Need-slice-aggregate-put-either
-slice-aggregate-put-either c = search needs
+slice-aggregate-put-either c = refl
 
 slice-aggregate-put-either-2 : tie.Need-slice-aggregate-put-either-2
-slice-aggregate-put-either-2 c = search needs
+slice-aggregate-put-either-2 c = refl
 
 put-either-requires : tie.Need-put-either-requires
-put-either-requires c κs = search needs
+put-either-requires c κs = tt
 
 same-length : tie.Need-same-length
 same-length c = search needs

@@ -1,4 +1,4 @@
-use mathlib.Core.Path.{sym, _∙_}
+use mathlib.Core.Path.{refl, sym, _∙_}
 use borrow.Author.Tests.{eq-eqb, ne-eqb}
 use Rattle.verdict.specs.Verdict.{worth}
 use borrow.Author.Needs.{needs}
@@ -6,19 +6,19 @@ use Rattle.verdict.proofs.put_worth.Statement.{statement}
 use Rattle.verdict.proofs.put_worth.Tie as tie
 
 is-whole-requires : tie.Need-is-whole-requires
-is-whole-requires c κs = search needs
+is-whole-requires c κs = tt
 
 slice-aggregate-put : tie.Need-slice-aggregate-put
-slice-aggregate-put c = search needs
+slice-aggregate-put c = refl
 
 put-requires : tie.Need-put-requires
-put-requires c κs = search needs
+put-requires c κs = tt
 
 put-kind-requires : tie.Need-put-kind-requires
-put-kind-requires c κs = search needs
+put-kind-requires c κs = tt
 
 put-one-shot-requires : tie.Need-put-one-shot-requires
-put-one-shot-requires c κs = search needs
+put-one-shot-requires c κs = tt
 
 same-length : tie.Need-same-length
 same-length c = search needs
@@ -29,13 +29,13 @@ returns c =
     rw ((sym (c .before .before .before .before .before .before .before .before .before .before .before .before .before .before .is-whole .ensures) ∙ c .before .before .before .before .before .before .before .before .before .before .before .before .before .if1 .taken), c .before .before .before .before .before .before .before .before .before .before .put .ensures, c .before .before .before .before .before .before .put-kind .ensures) (c .before .before .put-one-shot .ensures)
 
 limit-requires : tie.Need-limit-requires
-limit-requires c κs = search needs
+limit-requires c κs = tt
 
 slice-aggregate-put-2 : tie.Need-slice-aggregate-put-2
-slice-aggregate-put-2 c = search needs
+slice-aggregate-put-2 c = refl
 
 put-requires-2 : tie.Need-put-requires-2
-put-requires-2 c κs = search needs
+put-requires-2 c κs = tt
 
 same-length-2 : tie.Need-same-length-2
 same-length-2 c = search needs
@@ -46,22 +46,22 @@ returns-2 c =
     rw ((sym (c .before .before .before .before .before .before .before .before .is-whole .ensures) ∙ c .before .before .before .before .before .before .before .if1 .left), ← c .before .before .before .before .before .before .limit .ensures, eq-eqb _ 255 (c .before .before .before .before .before .if2 .taken)) (c .before .before .put2 .ensures)
 
 slice-aggregate-put-figure : tie.Need-slice-aggregate-put-figure
-slice-aggregate-put-figure c = search needs
+slice-aggregate-put-figure c = refl
 
 cast-put-figure : tie.Need-cast-put-figure
 cast-put-figure c = search needs
 
 put-figure-requires : tie.Need-put-figure-requires
-put-figure-requires c κs = search needs
+put-figure-requires c κs = tt
 
 slice-aggregate-put-3 : tie.Need-slice-aggregate-put-3
-slice-aggregate-put-3 c = search needs
+slice-aggregate-put-3 c = refl
 
 put-requires-3 : tie.Need-put-requires-3
-put-requires-3 c κs = search needs
+put-requires-3 c κs = tt
 
 put-one-shot-requires-2 : tie.Need-put-one-shot-requires-2
-put-one-shot-requires-2 c κs = search needs
+put-one-shot-requires-2 c κs = tt
 
 same-length-3 : tie.Need-same-length-3
 same-length-3 c = search needs

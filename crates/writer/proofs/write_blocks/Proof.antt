@@ -7,24 +7,24 @@ use Rattle.paper.specs.Lists.{joined}
 use lib.ListN.{length, take, drop}
 use borrow.Rule.Slice.PartMut.{same-len-mid}
 use native.Mathlib.Omega.{arith}
-use mathlib.Core.List.{[], _++_}
-use Rattle.block.proofs.Blocks.{first-edition}
-use Rattle.paper.specs.Block.{blockBytes, payloadStart}
+use mathlib.Core.List.{_++_}
+use Rattle.block.specs.Origins.{originOf}
+use Rattle.paper.specs.Block.{blockBytes}
 use mathlib.Core.Path.{_≡_, refl, ap, _∙_}
 use Prim.Native.Nat.{ℕ, _≤_, _+_, _-_, _*_}
 use Rattle.writer.proofs.write_blocks.Statement.{statement}
 use Rattle.writer.proofs.write_blocks.Tie as tie
 
 abbrev Inv-loop : tie.InvT-loop
-Inv-loop room₀ k levels n label bytes b blocks number₀ room number = (number ≤ blocks) × (length room ≡ length room₀) × (room ≡ joined number (blockOf payloadStart [] k levels n label (take b (bits bytes))) ++ drop (blockBytes * number) room₀)
+Inv-loop room₀ h label bytes b blocks number₀ room number = (number ≤ blocks) × (length room ≡ length room₀) × (room ≡ joined number (blockOf (originOf h) (h .k) (h .levels) (h .n) label (take b (bits bytes))) ++ drop (blockBytes * number) room₀)
 
 abbrev μ-loop : tie.MeasureT-loop
-μ-loop room₀ k levels n label bytes b blocks number₀ room number = blocks - number
+μ-loop room₀ h label bytes b blocks number₀ room number = blocks - number
 
 loop-holds : tie.Need-loop-holds Inv-loop μ-loop
 loop-holds c =
     let args = c .before .before .before .args in
-    (omega arith, refl, none-joined blockBytes (blockOf payloadStart [] (args .k) (args .levels) (args .n) (args .label .now) (take (args .b) (bits (args .bytes .now)))) (args .room .now))
+    (omega arith, refl, none-joined blockBytes (blockOf (originOf (args .h)) (args .h .k) (args .h .levels) (args .h .n) (args .label .now) (take (args .b) (bits (args .bytes .now)))) (args .room .now))
 
 mul-start : tie.Need-mul-start Inv-loop μ-loop
 mul-start c = omega arith
@@ -60,7 +60,7 @@ loop-again c =
     let put = c .before .before .put-block in (
       omega arith,
       same-len-mid (blockBytes * at .number) (blockBytes * at .number + blockBytes - blockBytes * at .number) (at .room) (put .last .0) (put .kept .0) ∙ at .inv .1,
-      one-written payloadStart [] (args .k) (args .levels) (args .n) (args .label .now) (args .bytes .now) (args .b) first-edition (at .number) (S .pre .1 .0) (put .last .0) (at .room) (args .room .now) (at .inv .2) (put .ensures),
+      one-written (originOf (args .h)) (args .h .k) (args .h .levels) (args .h .n) (args .label .now) (args .bytes .now) (args .b) (at .number) (S .pre .1 .0) (put .last .0) (at .room) (args .room .now) (at .inv .2) (put .ensures),
     )
 
 same-length : tie.Need-same-length Inv-loop μ-loop
@@ -72,7 +72,7 @@ returns c =
     let args = c .before .before .before .before .before .args in
     let at = c .before .loop in
     let e : at .number ≡ args .blocks = omega arith in
-    at .inv .2 ∙ ap (λ (j : ℕ). joined j (blockOf payloadStart [] (args .k) (args .levels) (args .n) (args .label .now) (take (args .b) (bits (args .bytes .now)))) ++ drop (blockBytes * j) (args .room .now)) e
+    at .inv .2 ∙ ap (λ (j : ℕ). joined j (blockOf (originOf (args .h)) (args .h .k) (args .h .levels) (args .h .n) (args .label .now) (take (args .b) (bits (args .bytes .now)))) ++ drop (blockBytes * j) (args .room .now)) e
 
 pub write-blocks-spec : {M : Type 1} → statement M
 write-blocks-spec =

@@ -1,8 +1,14 @@
 //! Pictures, numbers and labels that the tests share.
 #![allow(dead_code)] // no test needs all of them
 
+use label::Edition;
+
 pub const LABEL: &[u8; 8] = b"00000417";
 pub const MEDIA: &[u8; 8] = b"0417AAL6"; // its last two places are a media type
+
+/// Both editions, the second with an arm and a mount number, each of whose three bytes is another.
+pub const EDITIONS: [Edition; 2] = [Edition::One, BY_ARM_2];
+pub const BY_ARM_2: Edition = Edition::Two { arm: 2, mount: 70_123 };
 
 /// Numbers by chance, the same in every run.
 pub struct Chance(u64);
@@ -93,9 +99,10 @@ pub fn set(greys: &[i32]) -> Vec<u8> {
 }
 
 /// A picture's record under LABEL, in a room that is filled to the last byte.
-pub fn record(k: u32, levels: u32, coding: &Coding) -> Vec<u8> {
-    let mut room = vec![0xAA; label::blocks(coding.bits) * label::BLOCK_BYTES];
-    let blocks = label::write(k, levels, coding.n, LABEL, &coding.bytes, coding.bits, &mut room).expect("its bits");
+pub fn record(k: u32, levels: u32, edition: Edition, coding: &Coding) -> Vec<u8> {
+    let (bytes, bits) = (&coding.bytes, coding.bits);
+    let mut room = vec![0xAA; label::blocks_of(edition, bits) * label::BLOCK_BYTES];
+    let blocks = label::write(k, levels, coding.n, edition, LABEL, bytes, bits, &mut room).expect("its bits");
     assert_eq!(blocks * label::BLOCK_BYTES, room.len());
     room
 }
@@ -108,6 +115,17 @@ pub fn media_block() -> [u8; 512] {
         0x00,
     ]);
     block[508..].copy_from_slice(&[0x02, 0xB2, 0x1E, 0x4F]);
+    block
+}
+
+/// The same of edition 2, BY_ARM_2.
+pub fn arm_block() -> [u8; 512] {
+    let mut block = [0; 512];
+    block[..23].copy_from_slice(&[
+        0x02, 0x03, 0x02, 0x03, 0x30, 0x34, 0x31, 0x37, 0x41, 0x41, 0x4C, 0x36, 0x00, 0x00, 0x00, 0x11, 0x02, 0x01,
+        0x11, 0xEB, 0xC0, 0x08, 0x00,
+    ]);
+    block[508..].copy_from_slice(&[0x03, 0xB2, 0x35, 0x43]);
     block
 }
 

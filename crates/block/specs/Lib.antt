@@ -1,0 +1,2 @@
+-- What the writer's heading says of a record's origin.
+pub mod Origins
