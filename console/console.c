@@ -196,12 +196,22 @@ static void say_behind(size_t i, uint32_t ended)
     say_mount(block);
 }
 
-/* The planes that the bits kept leave unfinished. */
-static uint32_t unfinished(struct label_kept kept, const uint8_t *payload, size_t room)
+/* What the bits kept settle: the planes that they leave unfinished, and where the cut fell. */
+static struct label_settled settled_by(struct label_kept kept, const uint8_t *payload, size_t room)
 {
     static int32_t numbers[LABEL_PLACES(MOST_K)];
 
-    return label_decode(kept.k, kept.levels, kept.n, numbers, LABEL_PLACES(kept.k), payload, room, kept.bits).unfinished;
+    return label_decode(kept.k, kept.levels, kept.n, numbers, LABEL_PLACES(kept.k), payload, room, kept.bits);
+}
+
+/* The line of planes, as decode has it. Of a plane that is running, how much is in: whole per cent of the picture's
+   numbers, rounded down, so that it is never 100. */
+static void say_planes(struct label_kept kept, struct label_settled settled)
+{
+    printf("  planes finished: %u of %u", (unsigned)(kept.n - settled.unfinished), (unsigned)kept.n);
+    if (settled.unfinished)
+        printf(" and %u%% of the next", (unsigned)(100 * settled.place / LABEL_PLACES(kept.k)));
+    printf(", levels: %u, bits: %zu\n", (unsigned)kept.levels, kept.bits);
 }
 
 /* Like a reader that was asked for this label. */
@@ -210,7 +220,8 @@ static int judge_record(const char *label)
     size_t room = whole * LABEL_PAYLOAD_BYTES;
     uint8_t *payload = (uint8_t *)malloc(room + 1);
     struct label_kept kept;
-    uint32_t ended, p = 0;
+    struct label_settled settled = {0, 0, 0, 0};
+    uint32_t ended, p;
     unsigned full;
     int all;
 
@@ -220,7 +231,8 @@ static int judge_record(const char *label)
     }
     kept = label_read(record, length, (const uint8_t *)label, strlen(label), payload, room);
     if (!kept.refusal)
-        p = unfinished(kept, payload, room);
+        settled = settled_by(kept, payload, room);
+    p = settled.unfinished;
     free(payload);
     if (kept.refusal == LABEL_BAD_ROOM) {
         printf("BAD: no whole block came, only %zu of 512 bytes (6)\n", over);
@@ -263,8 +275,7 @@ static int judge_record(const char *label)
     }
     say_over();
     if (kept.blocks)
-        printf("  planes finished: %u of %u, levels: %u, bits: %zu\n", (unsigned)(kept.n - p), (unsigned)kept.n,
-               (unsigned)kept.levels, kept.bits);
+        say_planes(kept, settled);
     if (kept.blocks > 1)
         printf("not judged: whether the blocks are of one shot; %s\n",
                kept.edition == 2 ? "they are of one arm and mount" : "edition 1 can't tell");

@@ -34,8 +34,11 @@
  *     label_write makes the edition that it is asked for; label_read and label_block_check take both, and
  *     label_read gives edition, arm and mount, the last two 0 in edition 1. What was made before version
  *     0.5.0 knows edition 1 alone, and refuses by 9 every block of edition 2 whose checks are right.
- *     Code that was compiled with a page before 0.5.0 has to be compiled anew, also if it only reads: struct
- *     label_kept is longer. A kept block is full at LABEL_PAYLOAD_BITS_OF(kept.edition) bits.
+ *     Code that was compiled with a page before 0.6.0 has to be compiled anew, also if it only reads: struct
+ *     label_kept is longer since 0.5.0, and struct label_settled since 0.6.0. No linker tells: with this page
+ *     and an archive of two versions a program links, and then crashes or reads what nobody wrote. Take both
+ *     of one version.
+ *     A kept block is full at LABEL_PAYLOAD_BITS_OF(kept.edition) bits.
  *
  *     Nothing is allocated and nothing is kept between calls; a call takes at most LABEL_STACK_BYTES of
  *     stack. A slice is a pointer and a count of elements. No slice that is written to overlaps another (two
@@ -45,6 +48,11 @@
  *     What a cut picture is worth, with p planes unfinished: no wavelet number's magnitude is above the true
  *     one, none is short by more than 2^p - 1, none that isn't zero has the wrong sign, and no grey is off by
  *     more than (7L + 1)(2^p - 1). With p = 0 it is the very picture.
+ *
+ *     Where the cut fell is `place`, of label_decode: the lowest place not yet settled in the plane that is
+ *     running, in Z order; 0 where no plane is running or none of it is settled. A closed set settles all its
+ *     places, an open test none, and a 1 that lacks its sign does not settle its number. What that is worth:
+ *     the numbers before it are short by at most 2^(p - 1) - 1, the others by at most 2^p - 1.
  *
  *     A thumbnail is the picture at side S/2^r, r from 1 to L, made of the first (S/2^r)^2 numbers alone: the
  *     inverse stops r levels early, and at r = L it is the smallest band plus 128. With p = 0 it is the low
@@ -113,9 +121,10 @@
  *                                          picture, PLACES, room, PLACES);
  *         if (kept.refusal || cut.refusal || refusal)
  *             return 1;
- *         printf("arm %u, mount %u: %zu of %zu blocks kept, %u of %u planes unfinished\n",
- *                (unsigned)kept.arm, (unsigned)kept.mount, kept.blocks, made.blocks,
- *                (unsigned)cut.unfinished, (unsigned)kept.n);
+ *         printf("arm %u, mount %u: %zu of %zu blocks kept\n", (unsigned)kept.arm, (unsigned)kept.mount,
+ *                kept.blocks, made.blocks);
+ *         printf("%u of %u planes unfinished, the cut at place %zu of %u\n", (unsigned)cut.unfinished,
+ *                (unsigned)kept.n, cut.place, (unsigned)PLACES);
  *         return 0;
  *     }
  *
@@ -141,9 +150,9 @@ extern "C" {
 #endif
 
 #define LABEL_VERSION_MAJOR 0
-#define LABEL_VERSION_MINOR 5
+#define LABEL_VERSION_MINOR 6
 #define LABEL_VERSION_PATCH 0
-#define LABEL_VERSION "0.5.0"
+#define LABEL_VERSION "0.6.0"
 
 /* LABEL_PAYLOAD_BYTES and LABEL_PAYLOAD_BITS are those of edition 1; of whichever edition the blocks are,
    label_read asks for LABEL_PAYLOAD_BYTES of room a block. LABEL_PAYLOAD_BITS_OF takes edition 1 or 2; of a
@@ -197,9 +206,10 @@ struct label_written label_code(uint32_t k, uint32_t levels,
                                 const int32_t *numbers, size_t numbers_count, size_t limit,
                                 uint8_t *bytes, size_t bytes_count);
 
-/* Decodes the first b bits: writes all S x S numbers; gives the unfinished planes p and the bits read.
-   Refusals 1, 2, 3, 5, 6. */
-struct label_settled { uint32_t refusal; uint32_t unfinished; size_t read; };
+/* Decodes the first b bits: writes all S x S numbers; gives the unfinished planes p, the bits read, and the
+   place where the cut fell, below S x S: the lowest Z place not yet settled in the running plane, 0 where no
+   plane is running or none of it is settled. Refusals 1, 2, 3, 5, 6. */
+struct label_settled { uint32_t refusal; uint32_t unfinished; size_t read; size_t place; };
 struct label_settled label_decode(uint32_t k, uint32_t levels, uint32_t n,
                                   int32_t *numbers, size_t numbers_count,
                                   const uint8_t *bytes, size_t bytes_count, size_t b);

@@ -111,8 +111,8 @@ static void journey(void)
     settled = label_decode(kept.k, kept.levels, kept.n, numbers, PLACES, room, sizeof room, kept.bits);
     for (zeros = 0; zeros < PLACES - 1 && !numbers[1 + zeros];)
         zeros++;
-    printf("\ndecoded: %u, %u planes unfinished, the number %d and %zu zeros\n", (unsigned)settled.refusal,
-           (unsigned)settled.unfinished, (int)numbers[0], zeros);
+    printf("\ndecoded: %u, %u planes unfinished, place %zu, the number %d and %zu zeros\n", (unsigned)settled.refusal,
+           (unsigned)settled.unfinished, settled.place, (int)numbers[0], zeros);
 }
 
 /* With a byte in one place of 0417AAL6: what the block check answers, the writer, the reader that is asked for this

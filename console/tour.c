@@ -2,6 +2,7 @@
    every thumbnail, at every size up to the largest k given: tour [LARGEST_K]. */
 #include <stdio.h>
 #include <stdlib.h>
+#include <string.h>
 
 #include "label.h"
 
@@ -9,7 +10,7 @@ enum { MOST_K = 8, PLACES = LABEL_PLACES(MOST_K), BLOCKS = LABEL_MOST_BLOCKS(MOS
 
 static uint8_t picture[PLACES], shown[PLACES], bytes[LABEL_MOST_BYTES(MOST_K, LABEL_MOST_PLANES)];
 static uint8_t record[BLOCKS * LABEL_BLOCK_BYTES], payload[BLOCKS * LABEL_PAYLOAD_BYTES];
-static int32_t numbers[PLACES], room[PLACES], low[PLACES];
+static int32_t numbers[PLACES], room[PLACES], low[PLACES], truth[PLACES];
 static const uint8_t label[8] = {'0', '0', '0', '0', '0', '4', '1', '7'};
 
 /* A ramp with a bar across it. */
@@ -55,8 +56,22 @@ static unsigned long thumbnail_off(uint32_t k, uint32_t levels, uint32_t halving
     return largest;
 }
 
-/* What the first blocks of the record show: edition, arm and mount, the planes unfinished, and the largest error against
-   the promised one; then of each thumbnail. */
+/* Whether a number is above the true one, short of it by more than is promised, or of the wrong sign: before the place
+   where the cut fell by 2^(p - 1) - 1, at it and behind by 2^p - 1. */
+static int numbers_worse(size_t places, struct label_settled settled)
+{
+    for (size_t i = 0; i < places; i++) {
+        uint32_t unread = settled.unfinished - (i < settled.place);
+        int32_t size = abs(numbers[i]), all = abs(truth[i]);
+
+        if (size > all || all - size >= (int32_t)1 << unread || (numbers[i] && (numbers[i] < 0) != (truth[i] < 0)))
+            return 1;
+    }
+    return settled.place >= places || (settled.place && !settled.unfinished);
+}
+
+/* What the first blocks of the record show: edition, arm and mount, the planes unfinished, where the cut fell, the numbers
+   and the largest error against what is promised; then of each thumbnail. */
 static void out(uint32_t k, size_t places, size_t blocks)
 {
     struct label_kept kept;
@@ -77,8 +92,11 @@ static void out(uint32_t k, size_t places, size_t blocks)
     promised = (7ul * kept.levels + 1) * ((1ul << settled.unfinished) - 1);
     printf("  %zu of its blocks: edition %u, arm %u, mount %u, %zu bits\n", kept.blocks, (unsigned)kept.edition,
            (unsigned)kept.arm, (unsigned)kept.mount, kept.bits);
-    printf("    %u planes unfinished, %s\n", (unsigned)settled.unfinished,
-           largest > promised ? "WORSE THAN PROMISED" : settled.unfinished == 0 ? "the very picture" : "as good as promised");
+    printf("    %u planes unfinished", (unsigned)settled.unfinished);
+    if (settled.unfinished)
+        printf(", the cut at place %zu of %zu", settled.place, places);
+    printf(", %s\n", largest > promised || numbers_worse(places, settled) ? "WORSE THAN PROMISED"
+                     : settled.unfinished == 0 ? "the very picture" : "as good as promised");
     for (uint32_t r = 1; r <= kept.levels; r++)
         worse |= thumbnail_off(k, kept.levels, r) > (7ul * (kept.levels - r) + 1) * ((1ul << settled.unfinished) - 1);
     printf("    thumbnails, sides %u to %u: %s\n", 1u << (k - 1), 1u << (k - kept.levels),
@@ -100,6 +118,7 @@ int main(int argc, char **argv)
         written = label_code(k, levels, numbers, places, SIZE_MAX, bytes, sizeof bytes);
         if (planes.refusal || written.refusal || planes.n != written.n)
             refused();
+        memcpy(truth, numbers, places * sizeof *truth);
         for (uint32_t edition = 1; edition <= 2; edition++) {
             /* edition 1 has no place for the arm and the mount number that it is given */
             struct label_blocks blocks = label_write(k, levels, written.n, edition, 1 + k % 2, 70120 + k, label, sizeof label,

@@ -48,11 +48,11 @@ def blocks_kept(record, asked):
     return bits, kept, bad
 
 def wavelet_numbers(bits, k, L, n):
-    """From bits to wavelet numbers, in Z order, and p, the number of unfinished planes."""
-    S, p, bits, magnitude, sign = 2 ** k, n, iter(bits), [0] * 4 ** k, [1] * 4 ** k
-    def is_open(start, end): return max(magnitude[start:end]) >= 2 * T or next(bits) == 1
+    """From bits to wavelet numbers in Z order, p, the unfinished planes, and where bits ran out."""
+    S, p, bits, magnitude, sign, at = 2 ** k, n, iter(bits), [0] * 4 ** k, [1] * 4 ** k, [0]
+    def is_open(a, b): at[0] = a; return max(magnitude[a:b]) >= 2 * T or next(bits) == 1
     def read_set(start, length):
-        if length == 1: read_number(start)
+        if length == 1: at[0] = start; read_number(start)
         elif is_open(start, start + length):
             for i in range(4): read_set(start + i * length // 4, length // 4)
     def read_number(place):
@@ -60,14 +60,13 @@ def wavelet_numbers(bits, k, L, n):
         elif next(bits) == 1: sign[place], magnitude[place] = 1 - 2 * next(bits), T
     try:
         while p > 0:
-            T, q = 2 ** (p - 1), (S // 2 ** L) ** 2
-            read_set(0, q)
+            T, q = 2 ** (p - 1), (S // 2 ** L) ** 2; read_set(0, q)
             while q < S ** 2 and is_open(q, S ** 2):
                 for start in (q, 2 * q, 3 * q): read_set(start, q)
                 q = 4 * q
             p = p - 1
     except StopIteration: pass  # the bits ran out: the numbers keep what they have
-    return [sign[place] * magnitude[place] for place in range(S ** 2)], p
+    return [sign[place] * magnitude[place] for place in range(S ** 2)], p, at[0] * (p > 0)
 
 def undo_line(x, at):
     """Where x has h lows and then h highs, at these places, it gets the line they were made of."""
@@ -94,18 +93,19 @@ def opened(label, record, R=''):
     if kept == 0: return ['REFUSED %s: block 0 is %s' % (label, bad[0])] + bad[1:], b''
     if R and R.lstrip('0') not in list('12345'[:L]):
         return ['REFUSED %s: R goes from 1 to %d, the levels of this record (13)' % (label, L)], b''
-    numbers, p = wavelet_numbers(bits, k, L, n)
+    numbers, p, at = wavelet_numbers(bits, k, L, n)
     S, r, s, what = 2 ** k, int(R[-1:] or 0), 's' * (kept > 1), 'thumbnail' if R else 'picture'
     side, limit, gap = S // 2 ** r, min(255, (7 * (L - r) + 1) * (2 ** p - 1)), ' '
     verdict, worth = 'CUT', 'no grey is off by more than %d of 255' % limit
     if limit == 255: worth = 'any grey may be wrong: too little is left to promise more'
     if p == 0: verdict, worth = 'WHOLE', 'every grey is right: the very ' + what
     more = 'more' if p > 0 and len(bits) == full(record) * kept else 'no more'
+    part = ' and %d%% of the next' % (100 * at // S ** 2) if p > 0 else ''  # all before at is in
     size = 'thumbnail, side %d of %d' % (side, S) if R else 'side %d' % S
     if record[0] == 2: size, gap = size + ', arm %d, mount %d' % named(record), '\n  ' if R else ' '
     said = ['%s %s, %s:%s%d block%s, %s expected' % (verdict, label, size, gap, kept, s, more),
             '  ' + worth + (', if its blocks are of one shot' if kept > 1 and limit < 255 else ''),
-            '  planes finished: %d of %d, levels: %d, bits: %d' % (n - p, n, L, len(bits))]
+            '  planes finished: %d of %d%s, levels: %d, bits: %d' % (n - p, n, part, L, len(bits))]
     if bad: said += ['  block %d ended the run: it is %s' % (kept, bad[0])] + bad[1:]
     header = 'P5\n# %s %s, p = %d,%s no grey off by more than %d of 255%s\n%d %d\n255\n' % (
         label, verdict, p, ' thumbnail from side %d,' % S if R else '', limit,
@@ -113,7 +113,7 @@ def opened(label, record, R=''):
     return said, header.encode() + greys(numbers, k, L, r)
 
 if __name__ == '__main__':
-    given, text, version = sys.argv[1:], __doc__.strip(), 'reader.py 0.5.0, editions 1 and 2'
+    given, text, version = sys.argv[1:], __doc__.strip(), 'reader.py 0.6.0, editions 1 and 2'
     if given in (['--help'], ['--version']): sys.exit(print(text if '--help' in given else version))
     wrong = len(given) not in (3, 4) or not all(os.fsencode(R).isdigit() for R in given[3:])
     if wrong or given[0][:1] == '-': sys.exit(print(text, file=sys.stderr) or 2)

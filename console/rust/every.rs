@@ -1,10 +1,11 @@
 //! The label library against the second program where chance is not enough:
-//! every size and level, every cut of small codings, every plane count, every
-//! thumbnail of each size and of each sample, every change of one byte and
-//! every exchange of two in a block, every byte in each place of a label and of
-//! what the blocks of a record share, in both editions; every edition up to 300
-//! with every arm up to 4, and every choice of a writer's faults. Stops at the
-//! first difference.
+//! every size and level, every cut of small codings, every short string of bits
+//! and every cut of bits that no coder wrote, with the place where it fell, every
+//! plane count, every thumbnail of each size and of each sample, every change of
+//! one byte and every exchange of two in a block, every byte in each place of a
+//! label and of what the blocks of a record share, in both editions; every
+//! edition up to 300 with every arm up to 4, and every choice of a writer's
+//! faults. Stops at the first difference.
 
 mod library;
 
@@ -15,12 +16,13 @@ use second::edition::{Edition, Origin, MOST_MOUNT};
 use second::places;
 use second::random::Random;
 use second::record::{self, READER_ROOM};
-use second::samples;
+use second::samples::{self, Bits};
 use second::show;
 use second::sizes::{most_levels, Sizes, LARGEST_K, LARGEST_MAGNITUDE, MOST_PLANES, SMALLEST_K};
 use second::transcript::{self, lent_bytes, lent_numbers, Answer, Field, Request};
 use second::transform;
 use std::fs;
+use std::ops::RangeInclusive;
 use std::path::PathBuf;
 use std::process::exit;
 
@@ -117,20 +119,126 @@ fn every_size(comparison: &mut Comparison, random: &mut Random, sizes: Sizes, ro
     }
 }
 
+/// What a decoding answers.
+struct Decoded {
+    unfinished: u32,
+    read: u64,
+    place: u64,
+    numbers: Vec<i32>,
+}
+
+/// Makes the call for a decoding, on both sides.
+fn decoded(comparison: &mut Comparison, request: &Request) -> Decoded {
+    let fields: Vec<Field> = comparison.same(request).into_iter().map(|(_, field)| field).collect();
+    match <[Field; 5]>::try_from(fields) {
+        Ok(
+            [Field::Small(0), Field::Small(unfinished), Field::Large(read), Field::Large(place), Field::Numbers(numbers)],
+        ) => Decoded {
+            unfinished,
+            read,
+            place,
+            numbers,
+        },
+        _ => unreachable!("a decoding that is not refused has these five"),
+    }
+}
+
+/// The call for so many of these bits.
+fn decoding(sizes: Sizes, bits: &Bits, count: u64) -> Request {
+    Request::Decoding {
+        k: sizes.k(),
+        levels: sizes.levels(),
+        planes: bits.planes,
+        numbers: sizes.places(),
+        bytes: bits.bytes.clone(),
+        count,
+    }
+}
+
+/// The worked cuts, by the list that the format's page has: both sides might be wrong.
+fn every_place(comparison: &mut Comparison) {
+    let sizes = Sizes::new(3, 2).expect("k and L are in their ranges");
+    // A 5 at place 0; a -3 at place 15, whose planes have closed sets.
+    let first = [0, 0, 0, 1, 2, 3, 4, 0, 1, 2, 3, 4, 0, 1, 2, 3, 4, 0];
+    let sets = [0, 4, 4, 8, 12, 12, 13, 14, 15, 15, 16, 0, 4, 8, 12, 13, 14, 15, 16, 0];
+    for (planes, bytes, places) in [(3, [0xC0, 0x08, 0x00], &first[..]), (2, [0x48, 0xC0, 0x40], &sets[..])] {
+        let bits = Bits {
+            planes,
+            bytes: bytes.to_vec(),
+            count: places.len() as u64 - 1,
+        };
+        for (count, &place) in (0..).zip(places) {
+            let request = decoding(sizes, &bits, count);
+            if decoded(comparison, &request).place != place {
+                println!("the place is {place} by the rule: {}", show::line(&request));
+                exit(1);
+            }
+        }
+    }
+}
+
+/// The cuts whose place was looked at.
+#[derive(Default)]
+struct Cuts {
+    codings: u64,
+    of_codings: u64,
+    of_short: u64,
+    of_any: u64,
+}
+
+/// A number as it is while so many of its bits are unread.
+fn without(number: i32, unread: u32) -> i32 {
+    number.signum() * (number.abs() >> unread << unread)
+}
+
+/// Bits at each of these cuts, and the numbers that all of them settle: the place is one of the picture, 0 where no plane
+/// is running, and with more bits neither plane nor place moves back. Before the place the numbers lack the bits of p - 1
+/// planes, from it on those of p. Gives how many cuts there were.
+fn every_cut_of(
+    comparison: &mut Comparison,
+    sizes: Sizes,
+    bits: &Bits,
+    whole: &[i32],
+    counts: RangeInclusive<u64>,
+) -> u64 {
+    let mut last = (MOST_PLANES, 0);
+    let mut cuts = 0;
+    for count in counts {
+        let request = decoding(sizes, bits, count);
+        let Decoded {
+            unfinished,
+            place,
+            numbers,
+            ..
+        } = decoded(comparison, &request);
+        let on = unfinished < last.0 || (unfinished == last.0 && place >= last.1);
+        let within = place < sizes.places() as u64 && (unfinished > 0 || place == 0);
+        let lacks = |z| unfinished - u32::from(z < place);
+        let settled = (0..).zip(whole).map(|(z, number)| without(*number, lacks(z)));
+        if !on || !within || !settled.eq(numbers) {
+            println!("no place by the rule: {}", show::line(&request));
+            exit(1);
+        }
+        last = (unfinished, place);
+        cuts += 1;
+    }
+    cuts
+}
+
+/// Every cut of the coding of these numbers.
+fn every_cut_of_coding(comparison: &mut Comparison, sizes: Sizes, numbers: &[i32], cuts: &mut Cuts) {
+    let bits = samples::coding(sizes, numbers);
+    cuts.of_codings += every_cut_of(comparison, sizes, &bits, numbers, 0..=bits.count);
+    cuts.codings += 1;
+}
+
 /// Every cut of a coding, as decoded, as coded up to a limit, and as a record.
-fn every_cut(comparison: &mut Comparison, random: &mut Random, sizes: Sizes) {
-    let (k, levels, places) = (sizes.k(), sizes.levels(), sizes.places());
+fn every_cut(comparison: &mut Comparison, random: &mut Random, sizes: Sizes, cuts: &mut Cuts) {
+    let (k, levels) = (sizes.k(), sizes.levels());
     let numbers = samples::numbers(random, sizes);
+    every_cut_of_coding(comparison, sizes, &numbers, cuts);
     let bits = samples::coding(sizes, &numbers);
     for count in 0..=bits.count {
-        comparison.same(&Request::Decoding {
-            k,
-            levels,
-            planes: bits.planes,
-            numbers: places,
-            bytes: bits.bytes.clone(),
-            count,
-        });
         comparison.same(&Request::Coding {
             k,
             levels,
@@ -151,6 +259,54 @@ fn every_cut(comparison: &mut Comparison, random: &mut Random, sizes: Sizes) {
             });
         }
     }
+}
+
+/// Every cut of every coding of side 8 whose numbers are 0 but for one, which is any of these, at any place; and but for a 1
+/// and a -1 behind it, at any two places.
+fn every_small_coding(comparison: &mut Comparison, sizes: Sizes, cuts: &mut Cuts) {
+    let places = sizes.places();
+    for place in 0..places {
+        let mut numbers = vec![0; places];
+        for number in [1, -1, 2, -3, 5] {
+            numbers[place] = number;
+            every_cut_of_coding(comparison, sizes, &numbers, cuts);
+        }
+        numbers[place] = 1;
+        for other in place + 1..places {
+            numbers[other] = -1;
+            every_cut_of_coding(comparison, sizes, &numbers, cuts);
+            numbers[other] = 0;
+        }
+    }
+}
+
+/// What as many bits settle as any walk can take: every plane is finished.
+fn whole(comparison: &mut Comparison, sizes: Sizes, bits: &Bits) -> Decoded {
+    let whole = decoded(comparison, &decoding(sizes, bits, bits.count));
+    assert_eq!(whole.unfinished, 0, "the bound of the walk is one");
+    whole
+}
+
+/// Every string of up to so many bits, at most 15: one of fewer is a cut of one that ends in zeros.
+fn every_short_string(comparison: &mut Comparison, sizes: Sizes, planes: u32, most: u32, cuts: &mut Cuts) {
+    let count = sizes.most_bits(planes);
+    for string in 0..1_u16 << most {
+        let mut bytes = vec![0; bits::bytes_for(count)];
+        bytes[..2].copy_from_slice(&(string << (16 - most)).to_be_bytes());
+        let bits = Bits { planes, bytes, count };
+        let numbers = whole(comparison, sizes, &bits).numbers;
+        let shortest = most - string.trailing_zeros().min(most);
+        cuts.of_short += every_cut_of(comparison, sizes, &bits, &numbers, shortest.into()..=most.into());
+    }
+}
+
+/// Bits of one kind or another that no coder wrote, at every cut.
+fn every_cut_of_any_bits(comparison: &mut Comparison, random: &mut Random, sizes: Sizes, planes: u32, cuts: &mut Cuts) {
+    let count = sizes.most_bits(planes);
+    let bytes = samples::payload(random, bits::bytes_for(count));
+    let bits = Bits { planes, bytes, count };
+    let Decoded { read, numbers, .. } = whole(comparison, sizes, &bits);
+    cuts.of_any += every_cut_of(comparison, sizes, &bits, &numbers, 0..=read);
 }
 
 /// Bits that no coder wrote, at every plane count.
@@ -914,16 +1070,31 @@ fn main() {
     let mut comparison = Comparison { cases: 0 };
     let mut random = Random::new(417, 0);
     let mut thumbnails = Thumbnails::default();
+    let mut cuts = Cuts::default();
+    every_place(&mut comparison);
     for sizes in all_sizes() {
         every_size(&mut comparison, &mut random, sizes, if sizes.k() < 7 { 24 } else { 6 });
         if sizes.k() < 5 {
-            every_cut(&mut comparison, &mut random, sizes);
+            every_cut(&mut comparison, &mut random, sizes, &mut cuts);
         }
         if sizes.k() < 7 {
             every_plane_count(&mut comparison, &mut random, sizes);
         }
         for halvings in 1..=sizes.levels() {
             every_thumbnail(&mut comparison, &mut random, sizes, halvings, &mut thumbnails);
+        }
+    }
+    for sizes in all_sizes().filter(|sizes| sizes.k() == 3) {
+        every_small_coding(&mut comparison, sizes, &mut cuts);
+        for planes in 1..=3 {
+            every_short_string(&mut comparison, sizes, planes, 12, &mut cuts);
+        }
+    }
+    // Their own seed, so that the cases behind them stay what they were.
+    let mut any = Random::new(417, 1);
+    for sizes in all_sizes().filter(|sizes| sizes.k() < 5) {
+        for planes in (1..=MOST_PLANES).filter(|planes| sizes.k() == 3 || [1, 2, 5, MOST_PLANES].contains(planes)) {
+            every_cut_of_any_bits(&mut comparison, &mut any, sizes, planes, &mut cuts);
         }
     }
     every_sample(&mut thumbnails);
@@ -942,6 +1113,11 @@ fn main() {
     }
     let caught = what_the_check_catches(&mut comparison, &mut random);
     println!("{} cases one by one, no difference", comparison.cases);
+    println!(
+        "{} cuts of {} small codings, {} strings of up to 12 bits, {} cuts of bits that no coder wrote: each with the place \
+         where it fell, and its numbers have the bits that this says",
+        cuts.of_codings, cuts.codings, cuts.of_short, cuts.of_any
+    );
     println!(
         "{} changes of one byte of a block, {} exchanges of two unequal bytes, {} changes of two: each refused by 8",
         caught.changes, caught.exchanges, caught.pairs

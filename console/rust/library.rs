@@ -69,6 +69,7 @@ pub fn answer(request: &Request) -> Answer {
                 ("refusal", small(given.refusal)),
                 ("unfinished", small(given.unfinished)),
                 ("read", large(given.read)),
+                ("place", large(given.place)),
                 ("numbers", Field::Numbers(numbers)),
             ]
         }

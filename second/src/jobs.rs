@@ -5,6 +5,7 @@
 use crate::bits;
 use crate::block::{self, Heading};
 use crate::edition::{Edition, Origin};
+use crate::places::ZPlace;
 use crate::record::{self, Kept};
 use crate::refusal::Refusal;
 use crate::sizes::{self, Sizes};
@@ -46,6 +47,9 @@ pub fn coding(
 pub struct Decoded {
     pub unfinished: u32,
     pub bits_read: u64,
+    /// The lowest place not yet settled in the running plane; 0 where no plane
+    /// is running or none of it is settled.
+    pub place: ZPlace,
 }
 
 /// Writes all numbers that the first `count` bits settle.
@@ -61,10 +65,11 @@ pub fn decoding(
     sizes.check_length(numbers.len())?;
     sizes::check_planes(planes)?;
     Refusal::Room.when(!bits::hold(bytes, count))?;
-    let (unfinished, bits_read) = walk::decode(sizes, planes, numbers, bytes, count);
+    let (unfinished, bits_read, place) = walk::decode(sizes, planes, numbers, bytes, count);
     Ok(Decoded {
         unfinished,
         bits_read,
+        place,
     })
 }
 

@@ -5,7 +5,7 @@
 pub struct RasterPlace(pub usize);
 
 /// A place whose number interleaves the bits of row and column.
-#[derive(Clone, Copy, Debug, PartialEq, Eq)]
+#[derive(Clone, Copy, Debug, Default, PartialEq, Eq, PartialOrd, Ord)]
 pub struct ZPlace(pub usize);
 
 impl RasterPlace {

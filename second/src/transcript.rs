@@ -159,6 +159,7 @@ pub fn answer(request: &Request) -> Answer {
                 ("refusal", refusal),
                 ("unfinished", Field::Small(decoded.unfinished)),
                 ("bits read", Field::Large(decoded.bits_read)),
+                ("place", Field::Large(decoded.place.0 as u64)),
                 ("numbers", Field::Numbers(numbers)),
             ]
         }
@@ -256,7 +257,7 @@ pub fn answer_length(request: &Request) -> usize {
     match request {
         Request::Forward { numbers, .. } => 8 + 4 * numbers,
         Request::Coding { bytes, .. } => 16 + bytes,
-        Request::Decoding { numbers, .. } => 16 + 4 * numbers,
+        Request::Decoding { numbers, .. } => 24 + 4 * numbers,
         Request::Inverse { picture, room, .. } | Request::Thumbnail { picture, room, .. } => {
             4 + picture + 4 * room
         }

@@ -57,6 +57,8 @@ impl Partner for Decoder<'_> {
 struct Plane<'a, P> {
     p: u32,
     settled: &'a mut [i32],
+    /// A flag for each place, set when this plane has settled it.
+    flags: &'a mut [bool],
     partner: &'a mut P,
 }
 
@@ -98,7 +100,12 @@ impl<P: Partner> Plane<'_, P> {
         if set.iter().any(|number| self.is_known(*number)) {
             return Some(true);
         }
-        self.partner.answer(Question::Set(places), self.p)
+        let open = self.partner.answer(Question::Set(places.clone()), self.p)?;
+        if !open {
+            // Closed, a set or a rest settles all its places; open, none.
+            self.flags[places].fill(true);
+        }
+        Some(open)
     }
 
     fn number(&mut self, place: ZPlace) -> Option<()> {
@@ -114,6 +121,7 @@ impl<P: Partner> Plane<'_, P> {
             };
             self.settled[place.0] = if negative { number - t } else { number + t };
         }
+        self.flags[place.0] = true;
         Some(())
     }
 
@@ -122,20 +130,48 @@ impl<P: Partner> Plane<'_, P> {
     }
 }
 
+/// Where a walk stopped: the unfinished planes and, of the highest of them, which
+/// is the running one, a flag for each place. No flags where no plane is running.
+struct Stop {
+    unfinished: u32,
+    flags: Vec<bool>,
+}
+
+impl Stop {
+    /// The lowest place not yet settled in the running plane. It is 0 where no
+    /// plane is running, since there are no flags then, and where none of the
+    /// running plane is settled.
+    fn place(&self) -> ZPlace {
+        let lowest = self.flags.iter().position(|settled| !settled);
+        ZPlace(lowest.unwrap_or(0))
+    }
+}
+
 /// Walks the planes n - 1 down to 0 over numbers that are all zero, and gives
-/// the count of unfinished planes.
-fn walk_planes<P: Partner>(sizes: Sizes, planes: u32, settled: &mut [i32], partner: &mut P) -> u32 {
+/// where it stopped.
+fn walk_planes<P: Partner>(
+    sizes: Sizes,
+    planes: u32,
+    settled: &mut [i32],
+    partner: &mut P,
+) -> Stop {
     for p in (0..planes).rev() {
+        let mut flags = vec![false; sizes.places()];
         let mut plane = Plane {
             p,
             settled,
+            flags: &mut flags,
             partner,
         };
         if plane.walk(sizes.first_set()).is_none() {
-            return p + 1;
+            let unfinished = p + 1;
+            return Stop { unfinished, flags };
         }
     }
-    0
+    Stop {
+        unfinished: 0,
+        flags: Vec::new(),
+    }
 }
 
 /// Writes the first bits of the coding of `numbers`, as many as the limit and
@@ -150,19 +186,78 @@ pub fn code(sizes: Sizes, planes: u32, numbers: &[i32], limit: u64, bytes: &mut 
     coder.sink.written()
 }
 
+/// Settles all numbers by the first `count` bits, and gives where the walk
+/// stopped and the bits read.
+fn settle(sizes: Sizes, planes: u32, numbers: &mut [i32], bytes: &[u8], count: u64) -> (Stop, u64) {
+    let mut decoder = Decoder {
+        source: BitSource::new(bytes, count),
+    };
+    numbers.fill(0);
+    let stop = walk_planes(sizes, planes, numbers, &mut decoder);
+    (stop, decoder.source.taken())
+}
+
 /// Settles all numbers by the first `count` bits, and gives the unfinished
-/// planes and the bits read.
+/// planes, the bits read, and the lowest place not yet settled in the running
+/// plane.
 pub fn decode(
     sizes: Sizes,
     planes: u32,
     numbers: &mut [i32],
     bytes: &[u8],
     count: u64,
-) -> (u32, u64) {
-    let mut decoder = Decoder {
-        source: BitSource::new(bytes, count),
-    };
-    numbers.fill(0);
-    let unfinished = walk_planes(sizes, planes, numbers, &mut decoder);
-    (unfinished, decoder.source.taken())
+) -> (u32, u64, ZPlace) {
+    let (stop, read) = settle(sizes, planes, numbers, bytes, count);
+    (stop.unfinished, read, stop.place())
+}
+
+#[cfg(test)]
+mod tests {
+    use super::*;
+    use crate::random::Random;
+    use crate::samples::{self, Bits};
+
+    /// Where the walk of the first `count` bits stops.
+    fn stop(sizes: Sizes, bits: &Bits, count: u64) -> Stop {
+        let mut numbers = vec![-1; sizes.places()];
+        settle(sizes, bits.planes, &mut numbers, &bits.bytes, count).0
+    }
+
+    /// Of any bits: the flags below the place are set and no other, and at the
+    /// place of a running plane there is one that is not.
+    #[test]
+    fn flags_are_set_below_the_place_and_nowhere_else() {
+        let mut random = Random::new(60, 0);
+        let mut within = 0;
+        for _ in 0..2_000 {
+            let sizes = samples::sizes(&mut random, 5);
+            let bits = samples::bits(&mut random, sizes);
+            let stop = stop(sizes, &bits, random.below(bits.count + 1));
+            let ZPlace(place) = stop.place();
+            let running = stop.unfinished > 0;
+            assert_eq!(stop.flags.len(), if running { sizes.places() } else { 0 });
+            let expected = (0..stop.flags.len()).map(|flag| flag < place);
+            assert!(stop.flags.iter().copied().eq(expected));
+            assert!(place < sizes.places() && (running || place == 0));
+            within += u32::from(place > 0);
+        }
+        assert!(within >= 500, "{}", within);
+    }
+
+    /// P3's first plane, bit by bit: the set of places 0 to 3 opens, place 0 has
+    /// its 1 and its sign, three numbers are 0, and the rest is closed.
+    #[test]
+    fn flags_of_p3() {
+        let sizes = Sizes::new(3, 2).unwrap();
+        let mut numbers = vec![0; 64];
+        numbers[0] = 5;
+        let bits = samples::coding(sizes, &numbers);
+        let flags = |count| stop(sizes, &bits, count).flags;
+        let set = |count| flags(count).iter().filter(|flag| **flag).count();
+        let counts: Vec<usize> = (0..=7).map(set).collect();
+        assert_eq!(counts, [0, 0, 0, 1, 2, 3, 4, 0]);
+        // After bit 7 the next plane is running, and after bit 17 none is.
+        assert_eq!(flags(7), [false; 64]);
+        assert_eq!(flags(17), []);
+    }
 }

@@ -11,7 +11,7 @@ use lib.ListN.{length, take, drop, getD, length-take, length-drop, drop-of-lengt
 use lib.Seq.{drop-cons, getD-take}
 use borrow.Author.Tests.{lt-ltb, le-ltb, ltb-true, ltb-false, le-leb, lt-leb, eqb-true, eqb-false}
 use Rattle.paper.specs.Lists.{pick}
-use Rattle.paper.specs.Walk.{bitOf, worth, Tape, nextBit, isOne, Decoder}
+use Rattle.paper.specs.Walk.{bitOf, worth, Due, placeAfter, Tape, nextBit, isOne, Decoder}
 use Rattle.paper.specs.Bits.{bits}
 use Rattle.bits.specs.Bits.{kept, withBit, tapeOf, nextAt}
 use Rattle.bits.specs.declared.Answer.{Answer}
@@ -62,9 +62,13 @@ tape-long src b h = length-take b (bits src) ∙ omega (arith, bits-length src)
 abbrev pub heard : ℕ → Bool → ℕ → Option Bool
 heard b one r = pick (ltb b r) none (some one)
 
--- r answers the tape's next bit at `at`
+-- the place then: a bit that was missed settles nothing
+abbrev pub placeHeard : Due → ℕ → Answer → ℕ → ℕ
+placeHeard due b r place = pick (ltb b (r .at)) place (placeAfter due (r .one) place)
+
+-- r answers the tape's next bit at `at`, whatever it is due on
 pub record ReadBit (src : List ℕ) (b at : ℕ) (r : Answer) : Type 0 where
-  pub read : _≡_ {A = Option Bool × Tape} (nextBit (tapeOf src b at .left) (tapeOf src b at .missed)) (heard b (r .one) (r .at), tapeOf src b (r .at))
+  pub read : (due : Due) (z : ℕ) → _≡_ {A = Option Bool × Tape} (nextBit due (tapeOf src b at z .left) (tapeOf src b at z .missed) z) (heard b (r .one) (r .at), tapeOf src b (r .at) (placeHeard due b r z))
   pub quiet : b < r .at → r .one ≡ false
   pub near : r .at ≤ b + 1
 
@@ -77,7 +81,7 @@ read-yes src b at h k =
     let m : ltb b at ≡ false = le-ltb b at (omega arith) in
     let m′ : false ≡ ltb b (at + 1) = sym (le-ltb b (at + 1) (omega arith)) in
     record {
-      read = (λ i. nextBit (d i) (m i)) ∙ (λ i. (pick (m′ i) none (some one), record { left = drop (at + 1) (take b B); missed = m′ i }));
+      read = λ due z. (λ i. nextBit due (d i) (m i) z) ∙ (λ i. (pick (m′ i) none (some one), record { left = drop (at + 1) (take b B); missed = m′ i; place = pick (m′ i) z (placeAfter due one z) }));
       quiet = λ q. absurd (no at b h q);
       near = omega arith;
     }
@@ -95,7 +99,7 @@ read-no src b at h =
     let d′ : [] ≡ drop (b + 1) (take b B) = sym (drop-of-length-le (take b B) n′) in
     let m′ : true ≡ ltb b (b + 1) = sym (lt-ltb b (b + 1) (omega arith)) in
     record {
-      read = ap (λ l. nextBit l (ltb b at)) d ∙ (λ i. (pick (m′ i) none (some false), record { left = d′ i; missed = m′ i }));
+      read = λ due z. ap (λ l. nextBit due l (ltb b at) z) d ∙ (λ i. (pick (m′ i) none (some false), record { left = d′ i; missed = m′ i; place = pick (m′ i) z (placeAfter due false z) }));
       quiet = λ q. refl;
       near = omega arith;
     }
@@ -117,6 +121,14 @@ module _ {bytes : List ℕ} {b at : ℕ} {r : Answer} (R : ReadBit bytes b at r)
       go true e = sym (R .quiet (ltb-true b (r .at) e))
       go false e = refl
 
+  -- an open test settles nothing
+  pub open-still : (places z : ℕ) → r .one ≡ true → placeHeard (Due.test places) b r z ≡ z
+  open-still places z e = ap (λ o. pick (ltb b (r .at)) z (placeAfter (Due.test places) o z)) e ∙ go (ltb b (r .at))
+    where
+      go : (m : Bool) → pick m z z ≡ z
+      go true = refl
+      go false = refl
+
   pub heard-one : r .one ≡ true → heard b (r .one) (r .at) ≡ some true
   heard-one e = go (ltb b (r .at)) refl
     where
@@ -124,10 +136,10 @@ module _ {bytes : List ℕ} {b at : ℕ} {r : Answer} (R : ReadBit bytes b at r)
       go true k = absurd (let f : r .one ≡ false = R .quiet (ltb-true b (r .at) k) in let z : _≡_ {A = ℕ} 0 1 = cc in omega arith)
       go false k = ap some e
 
--- two places up to b + 1 with the same tape are the same place
-pub place-settled : (src : List ℕ) (b r s : ℕ) → b ≤ 8 * length src → r ≤ b + 1 → s ≤ b + 1 → tapeOf src b r ≡ tapeOf src b s → r ≡ s
+-- two tapes that are the same are at the same bit, up to b + 1
+pub tape-settled : (src : List ℕ) (b r s y z : ℕ) → b ≤ 8 * length src → r ≤ b + 1 → s ≤ b + 1 → tapeOf src b r y ≡ tapeOf src b s z → r ≡ s
 unfolding tapeOf
-place-settled src b r s k h g e = go (ltb b r) refl (ltb b s) refl
+tape-settled src b r s y z k h g e = go (ltb b r) refl (ltb b s) refl
   where
     left : b - r ≡ b - s
     left = omega (arith, tape-long src b k, length-drop r (take b (bits src)), length-drop s (take b (bits src)), ap (λ (t : Tape). length (t .left)) e)

@@ -34,10 +34,10 @@ wrote limit [] s = s
 wrote limit (b ∷ l) s = wrote limit l (put1 limit b s)
 
 -- ---- bits read
--- the first b bits of bytes, from the place `at` on; the place is b + 1 once a bit was missed
-unfoldable pub tapeOf : List ℕ → ℕ → ℕ → Tape
-tapeOf src b at = record { left = drop at (take b (bits src)); missed = ltb b at }
+-- the first b bits of bytes, from bit `at` on, which is b + 1 once a bit was missed; the plane is settled up to `place`
+unfoldable pub tapeOf : List ℕ → ℕ → ℕ → ℕ → Tape
+tapeOf src b at place = record { left = drop at (take b (bits src)); missed = ltb b at; place = place }
 
--- the next of the first b bits and the place behind it; a bit that is missed is answered as 0, and the place is b + 1
+-- the next of the first b bits and where the one behind it is; a bit that is missed is answered as 0, and that is b + 1
 unfoldable pub nextAt : List ℕ → ℕ → ℕ → Answer
 nextAt src b at = pick (ltb at b) (record { one = getD (bits src) at false; at = at + 1 }) (record { one = false; at = b + 1 })

@@ -36,7 +36,7 @@ pub extern "C" fn label_decode(
     bytes: &[u8],
     b: usize,
 ) -> Settled
-    ensures { λ r. ⌜ decodingJob k levels n (now (numbers .entry)) (now (bytes .entry)) b ≡ record { refusal = r .refusal; unfinished = r .unfinished; read = r .read; numbers = now (numbers .exit) } ⌝ }
+    ensures { λ r. ⌜ decodingJob k levels n (now (numbers .entry)) (now (bytes .entry)) b ≡ record { refusal = r .refusal; unfinished = r .unfinished; read = r .read; place = r .place; numbers = now (numbers .exit) } ⌝ }
 {
     label::decode(k, levels, n, numbers, bytes, b)
 }

@@ -52,7 +52,7 @@ fn put_refused(label: &[u8], line: &mut [u8]) -> usize {
 
 fn side_line(label: &[u8], k: u32, line: &mut [u8]) -> usize {
     let named = put_refused(label, line);
-    let side = words::put_figure(b": side ", verdict::side(k), line, named);
+    let side = words::put_figure(b": side ", worth::side(k), line, named);
     words::put(b", and this program holds sides up to 64\n", line, side)
 }
 
@@ -66,7 +66,7 @@ fn halvings_line(label: &[u8], levels: u32, line: &mut [u8]) -> usize {
 fn write_picture(kept: Kept, halvings: u32, unfinished: u32, label: &[u8], picture: &[u8]) -> bool {
     let k = sizes::less(kept.k, halvings);
     let mut promise = [0u8; 160];
-    let told = verdict::promise(
+    let told = promise::promise(
         label,
         kept.k,
         kept.levels,
@@ -127,6 +127,7 @@ fn rebuild(
         kept.blocks,
         kept.bits,
         settled.unfinished,
+        settled.place,
         ended,
         line,
     )
@@ -197,7 +198,7 @@ fn run(line: &mut [u8]) -> usize {
         return 0;
     }
     if fields::same_bytes(&label[..count], b"--version") {
-        pipes::write_all(STDOUT_FILENO, b"decode 0.5.0\n");
+        pipes::write_all(STDOUT_FILENO, b"decode 0.6.0\n");
         return 0;
     }
     if fields::same_bytes(&label[..count], b"--thumbnail") {

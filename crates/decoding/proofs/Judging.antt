@@ -1,8 +1,8 @@
 -- How a decoding is refused, row by row.
-use mathlib.Core.Path.{_≡_, refl, sym, ap, _∙_}
+use mathlib.Core.Path.{_≡_, sym, ap, _∙_}
 use mathlib.Core.Bool.{Bool, true, false}
 use mathlib.Core.List.{List}
-use Prim.Native.Nat.{ℕ, suc, _*_, _^_, _<_, _≤_}
+use Prim.Native.Nat.{ℕ, _*_, _^_, _<_, _≤_}
 use native.Mathlib.Omega.{arith}
 use lib.Dec.{leb, eqb}
 use borrow.Author.Tests.{eq-eqb, ne-eqb, leb-true, eqb-true}
@@ -64,7 +64,7 @@ right k L n numbers bytes b e =
 
 -- ---- the job
 module _ (k L n : ℕ) (numbers : List ℤ) (bytes : List ℕ) (b : ℕ) where
-  pub job-refused : (r : ℕ) → r ≡ decodingRefusal k L n numbers bytes b → 0 < r → decodingJob k L n numbers bytes b ≡ record { refusal = r; unfinished = 0; read = 0; numbers = numbers }
+  pub job-refused : (r : ℕ) → r ≡ decodingRefusal k L n numbers bytes b → 0 < r → decodingJob k L n numbers bytes b ≡ record { refusal = r; unfinished = 0; read = 0; place = 0; numbers = numbers }
   unfolding decodingJob
   job-refused r e h = rw (sym e) (refused-is r _ _ h)
 

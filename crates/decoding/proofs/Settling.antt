@@ -2,10 +2,11 @@
 use mathlib.Core.Path.{_≡_, refl, sym, ap, _∙_}
 use mathlib.Core.Bool.{Bool, true, false}
 use mathlib.Core.List.{List, [], _∷_, _++_}
-use Prim.Native.Nat.{ℕ, suc, _+_, _*_, _-_, _%_, _^_, _<_, _≤_, min}
+use Prim.Native.Nat.{ℕ, suc, _+_, _*_, _-_, _^_, _<_, _≤_, min}
 use native.Mathlib.Numerals.{add-one}
+use native.Mathlib.Nat.{pow-le-pow-right}
 use native.Mathlib.Omega.{arith}
-use lib.Dec.{leb, ltb}
+use lib.Dec.{leb}
 use borrow.Author.Tests.{leb-true, leb-false, le-ltb}
 use lib.IntN.{ℤ, pos}
 use lib.ListN.{length, take, drop, replicate, length-take, length-drop, length-replicate}
@@ -14,13 +15,16 @@ use lib.Seq.{take-all, take-take, take-suc-set}
 use Rattle.paper.specs.Sizes.{mostSize, mostPlanes}
 use Rattle.paper.specs.Bits.{bits}
 use Rattle.paper.specs.Walk.{Decoder, walkPlanes, depth, decodeOf, Settled}
-use Rattle.walk_laws.specs.Read.{readLimit, read-limit}
+use Rattle.walk_laws.specs.Together.{tape}
+use Rattle.walk_laws.specs.Read.{readLimit, read-limit, decoded-as}
 use Rattle.walk_laws.specs.Room.{Room, room-zeros}
 use Rattle.bits.specs.Bits.{tapeOf}
 use Rattle.bits.proofs.OneBit.{bits-length}
 use Rattle.shapes.specs.Shapes.{IsSquare}
 use Rattle.shapes.proofs.Cuts.{square-of}
-use Rattle.set_decoder.specs.Walked.{Source, Walked}
+use Rattle.set_decoder.specs.declared.Here.{Here}
+use Rattle.set_decoder.specs.Walked.{tapeAt, Source, Walked}
+use Rattle.plane_decoder.specs.Start.{fresh}
 
 -- ---- clearing
 pub cleared-more : (xs : List ℤ) (i : ℕ) → i < length xs → take i xs ≡ replicate i (pos 0) → take (i + 1) (ListN.set xs i (pos 0)) ≡ replicate (i + 1) (pos 0)
@@ -47,8 +51,13 @@ module _ {k L n : ℕ} {xs : List ℤ} {bytes : List ℕ} {b : ℕ} {zs : List �
   pub zeros-room : Room n zs
   zeros-room = rw (A .zeros) (room-zeros n (length xs) (A .planes))
 
-  pub capped : Source bytes c 0
-  capped = record { lent = omega (arith, A .cap, A .lent); missable = omega (arith, A .cap); near = omega arith }
+  pub capped : Source bytes c (fresh 0) (length zs)
+  capped = record {
+    lent = omega (arith, A .cap, A .lent);
+    missable = omega (arith, A .cap);
+    near = omega arith;
+    fits = omega (arith, ap length (A .zeros) ∙ length-replicate (length xs) (pos 0), A .places, pow-le-pow-right {n = 4} (omega arith) (A .small));
+  }
 
   abbrev pub square : IsSquare zs first
   square = square-of {k = k} {L = L} (A .less) (ap length (A .zeros) ∙ length-replicate (length xs) (pos 0) ∙ A .places) (A .set)
@@ -62,16 +71,13 @@ module _ {k L n : ℕ} {xs : List ℤ} {bytes : List ℕ} {b : ℕ} {zs : List �
       shorter false o = let q = leb-false b readLimit o in take-take readLimit b (bits bytes) (omega arith) ∙ ap (λ j. take j (bits bytes)) (let y : readLimit ≡ min readLimit b = omega arith in y)
 
   -- and what is read is the decoding
-  pub decoded : (ys : List ℤ) (unfinished r read : ℕ) → Walked (walkPlanes Decoder (depth k L) L n zs) bytes c 0 (ys, unfinished) r → read ≡ min r c
-      → decodeOf k L n (take b (bits bytes)) ≡ record { numbers = ys; unfinished = unfinished; read = read }
-  unfolding decodeOf tapeOf
-  decoded ys unfinished r read R er =
+  pub decoded : (ys : List ℤ) (unfinished : ℕ) (t : Here) (read : ℕ) → Walked (walkPlanes Decoder (depth k L) L n zs) bytes c (fresh 0) (ys, unfinished) t → read ≡ min (t .at) c
+      → decodeOf k L n (take b (bits bytes)) ≡ record { numbers = ys; unfinished = unfinished; read = read; place = t .place }
+  unfolding tapeOf
+  decoded ys unfinished t read R er =
       let start : zs ≡ replicate (4 ^ k) (pos 0) = A .zeros ∙ ap (λ j. replicate j (pos 0)) (A .places) in
-      let run : walkPlanes Decoder (depth k L) L n (replicate (4 ^ k) (pos 0)) (tapeOf bytes c 0) ≡ ((ys, unfinished), tapeOf bytes c r) =
-      ap (λ x. walkPlanes Decoder (depth k L) L n x (tapeOf bytes c 0)) (sym start) ∙ R .is in
-      let fresh : ltb c 0 ≡ false = le-ltb c 0 (omega arith) in
-      let count : length (take c (bits bytes)) - length (drop r (take c (bits bytes))) ≡ read = omega (arith, length-take c (bits bytes), length-drop r (take c (bits bytes)), bits-length bytes, er, A .cap, A .lent) in
-      capped-bits
-      ∙ ap {B = Settled} (λ q. let v = walkPlanes Decoder (depth k L) L n (replicate (4 ^ k) (pos 0)) (record { left = take c (bits bytes); missed = q }) in record { numbers = v .0 .0; unfinished = v .0 .1; read = length (take c (bits bytes)) - length (v .1 .left) }) (sym fresh)
-      ∙ ap {B = Settled} (λ v. record { numbers = v .0 .0; unfinished = v .0 .1; read = length (take c (bits bytes)) - length (v .1 .left) }) run
-      ∙ ap {B = Settled} (λ j. record { numbers = ys; unfinished = unfinished; read = j }) count
+      let fresh-tape : tape (take c (bits bytes)) false 0 ≡ tapeAt bytes c (fresh 0) = ap (λ q. tape (take c (bits bytes)) q 0) (sym (le-ltb c 0 (omega arith))) in
+      let run : walkPlanes Decoder (depth k L) L n (replicate (4 ^ k) (pos 0)) (tape (take c (bits bytes)) false 0) ≡ ((ys, unfinished), tapeAt bytes c t) =
+      (λ i. walkPlanes Decoder (depth k L) L n (sym start i) (fresh-tape i)) ∙ R .is in
+      let count : length (take c (bits bytes)) - length (drop (t .at) (take c (bits bytes))) ≡ read = omega (arith, length-take c (bits bytes), length-drop (t .at) (take c (bits bytes)), bits-length bytes, er, A .cap, A .lent) in
+      capped-bits ∙ decoded-as k L n (take c (bits bytes)) run ∙ ap {B = Settled} (λ j. record { numbers = ys; unfinished = unfinished; read = j; place = t .place }) count

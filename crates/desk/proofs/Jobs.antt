@@ -32,11 +32,11 @@ module _ (k L : ℕ) (o : Origin) (picture label : List ℕ) (limit : ℕ) (numb
 
 -- ---- bits made what is wanted
 module _ (wanted : Wanted) (k L n : ℕ) (bytes : List ℕ) (b : ℕ) (numbers : List ℤ) (picture : List ℕ) (room : List ℤ) (d : Decoding) (e : decodingJob k L n numbers bytes b ≡ d) where
-  pub decode-refused : (d .refusal ≡ 0 → ⊥) → rebuildingOf wanted k L n bytes b numbers picture room ≡ record { refusal = d .refusal; unfinished = d .unfinished; read = d .read; numbers = d .numbers; picture = picture; room = room }
+  pub decode-refused : (d .refusal ≡ 0 → ⊥) → rebuildingOf wanted k L n bytes b numbers picture room ≡ record { refusal = d .refusal; unfinished = d .unfinished; read = d .read; place = d .place; numbers = d .numbers; picture = picture; room = room }
   unfolding rebuildingOf
   decode-refused h = rw e (refused-is (d .refusal) _ _ (omega arith))
 
-  pub rebuilt-is : (i : Inverse) → d .refusal ≡ 0 → shownJob wanted k L (d .numbers) picture room ≡ i → rebuildingOf wanted k L n bytes b numbers picture room ≡ record { refusal = i .refusal; unfinished = d .unfinished; read = d .read; numbers = d .numbers; picture = i .picture; room = i .room }
+  pub rebuilt-is : (i : Inverse) → d .refusal ≡ 0 → shownJob wanted k L (d .numbers) picture room ≡ i → rebuildingOf wanted k L n bytes b numbers picture room ≡ record { refusal = i .refusal; unfinished = d .unfinished; read = d .read; place = d .place; numbers = d .numbers; picture = i .picture; room = i .room }
   unfolding rebuildingOf
   rebuilt-is i z f = rw (e, f) (done-is (d .refusal) _ _ z)
 
@@ -63,7 +63,7 @@ module _ (k L : ℕ) (o : Origin) (input : List ℕ) (start : ℕ) (label : List
 
 module _ (wanted : Wanted) (k L n : ℕ) (bytes : List ℕ) (b : ℕ) (numbers : List ℤ) (picture : List ℕ) (room : List ℤ) (area shown : ℕ) (a : area ≡ areaOf k) (s : shown ≡ areaOf (k - halvingsOf wanted)) where
   abbrev none : Rebuilding
-  none = record { refusal = 3; unfinished = 0; read = 0; numbers = numbers; picture = picture; room = room }
+  none = record { refusal = 3; unfinished = 0; read = 0; place = 0; numbers = numbers; picture = picture; room = room }
 
   pub no-numbers : length numbers < area → rebuildingIn wanted k L n bytes b numbers picture room ≡ none
   unfolding rebuildingIn
@@ -79,6 +79,6 @@ module _ (wanted : Wanted) (k L n : ℕ) (bytes : List ℕ) (b : ℕ) (numbers :
 
   pub rebuilt-front : (r : Rebuilding) → area ≤ length numbers → shown ≤ length picture → shown ≤ length room
       → rebuildingOf wanted k L n bytes b (take area numbers) (take shown picture) (take shown room) ≡ r
-      → rebuildingIn wanted k L n bytes b numbers picture room ≡ record { refusal = r .refusal; unfinished = r .unfinished; read = r .read; numbers = r .numbers ++ drop area numbers; picture = r .picture ++ drop shown picture; room = r .room ++ drop shown room }
+      → rebuildingIn wanted k L n bytes b numbers picture room ≡ record { refusal = r .refusal; unfinished = r .unfinished; read = r .read; place = r .place; numbers = r .numbers ++ drop area numbers; picture = r .picture ++ drop shown picture; room = r .room ++ drop shown room }
   unfolding rebuildingIn
   rebuilt-front r l p q f = rw (← a, ← s, le-leb area (length numbers) l, le-leb shown (length picture) p, le-leb shown (length room) q, f)

@@ -79,16 +79,17 @@ encode-into-record κs a r s x h = encoding-in _ _ _ _ _ _ _ _ _ _ _ x h
 
 -- ---- out of a record
 one-refused : (a : ℕ) (d : Decoding) (i : Inverse) (picture : List ℕ) (room : List ℤ) →
-    let r : Rebuilding = judged a (λ r. record { refusal = r; unfinished = d .unfinished; read = d .read; numbers = d .numbers; picture = picture; room = room }) (record { refusal = i .refusal; unfinished = d .unfinished; read = d .read; numbers = d .numbers; picture = i .picture; room = i .room }) in
-    r .refusal ≡ 0 → (i .refusal ≡ 0) × (i .picture ≡ r .picture) × (d .unfinished ≡ r .unfinished)
-one-refused zero d i picture room h = (h, refl, refl)
+    let r : Rebuilding = judged a (λ r. record { refusal = r; unfinished = d .unfinished; read = d .read; place = d .place; numbers = d .numbers; picture = picture; room = room }) (record { refusal = i .refusal; unfinished = d .unfinished; read = d .read; place = d .place; numbers = d .numbers; picture = i .picture; room = i .room }) in
+    r .refusal ≡ 0 → (i .refusal ≡ 0) × (i .picture ≡ r .picture) × (d .unfinished ≡ r .unfinished) × (d .place ≡ r .place)
+one-refused zero d i picture room h = (h, refl, refl, refl)
 one-refused (suc a) d i picture room h = absurd (omega arith)
 
--- the front of the picture's buffer ends as the journey's picture, and the unfinished planes are the journey's
-pub record Shown (seen : Seen) (area : ℕ) (before after : List ℕ) (unfinished : ℕ) : Type 0 where
+-- the front of the picture's buffer ends as the journey's picture, and the unfinished planes and the place are the journey's
+pub record Shown (seen : Seen) (area : ℕ) (before after : List ℕ) (unfinished place : ℕ) : Type 0 where
   pub accepted : seen .rebuilt .refusal ≡ 0
   pub picture : after ≡ seen .rebuilt .picture ++ drop area before
   pub planes : unfinished ≡ seen .decoded .unfinished
+  pub cut : place ≡ seen .decoded .place
 
 -- the journey of what is wanted: to the picture, or to a thumbnail
 abbrev pub journeyOf : Wanted → List ℕ → List ℕ → List ℕ → List ℤ → List ℕ → List ℤ → Seen
@@ -106,7 +107,7 @@ rebuilding-out-of-record : (wanted : Wanted) (label s payload : List ℕ) (numbe
     let area = areaOf (read .k) in
     let shown = areaOf (read .k - halvingsOf wanted) in
     rebuildingIn wanted (read .k) (read .L) (read .n) (read .room) (read .bits) numbers picture room ≡ q → q .refusal ≡ 0
-    → Shown (journeyOf wanted label s payload (take area numbers) (take shown picture) (take shown room)) shown picture (q .picture) (q .unfinished)
+    → Shown (journeyOf wanted label s payload (take area numbers) (take shown picture) (take shown room)) shown picture (q .picture) (q .unfinished) (q .place)
 unfolding rebuildingIn rebuildingOf
 rebuilding-out-of-record wanted label s payload numbers picture room q p h =
     let read = readingJob s label payload in
@@ -120,9 +121,10 @@ rebuilding-out-of-record wanted label s payload numbers picture room q p h =
       accepted = all .0;
       picture = sym (ap (λ (q : Rebuilding). q .picture) is) ∙ ap (λ (l : List ℕ). l ++ drop shown picture) (sym (all .1));
       planes = sym (ap (λ (q : Rebuilding). q .unfinished) is) ∙ sym (all .2);
+      cut = sym (ap (λ (q : Rebuilding). q .place) is) ∙ sym (all .3);
     })
 
--- Where rebuild, lent what the reader gave, does not refuse, the greys and the unfinished planes are those of the journey.
+-- Where rebuild, lent what the reader gave, does not refuse, the greys, the unfinished planes and the place are those of the journey.
 pub rebuild-out-of-record : (label s payload : List ℕ) → let read = readingJob s label payload in
     (κs : Lfts 4) (a : ArgsD rebuild-fn.signature κs) (r : ResD rebuild-fn.signature κs) (e : AtExit (endedOf 4 rebuild-kinds.ps rebuild-kinds.r) κs)
     → rebuild-contract.Post κs a r e → r .refusal ≡ 0
@@ -133,6 +135,6 @@ pub rebuild-out-of-record : (label s payload : List ℕ) → let read = readingJ
     let numbers = now (a .1 .1 .1 .1 .1 .1 .0) in
     let picture = now (a .1 .1 .1 .1 .1 .1 .1 .0) in
     let room = now (a .1 .1 .1 .1 .1 .1 .1 .1 .0) in
-    Shown (journeyOf wanted label s payload (take area numbers) (take shown picture) (take shown room)) shown picture (now (e .1 .1 .1 .1 .1 .1 .1 .0)) (r .unfinished)
+    Shown (journeyOf wanted label s payload (take area numbers) (take shown picture) (take shown room)) shown picture (now (e .1 .1 .1 .1 .1 .1 .1 .0)) (r .unfinished) (r .place)
 rebuild-out-of-record label s payload κs a r e x h k L n bytes b =
     rebuilding-out-of-record (a .0) label s payload _ _ _ _ (sym (λ i. rebuildingIn (a .0) (k i) (L i) (n i) (bytes i) (b i) (now (a .1 .1 .1 .1 .1 .1 .0)) (now (a .1 .1 .1 .1 .1 .1 .1 .0)) (now (a .1 .1 .1 .1 .1 .1 .1 .1 .0))) ∙ x) h

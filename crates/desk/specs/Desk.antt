@@ -71,6 +71,7 @@ pub record Rebuilding : Type 0 where
   pub refusal : ℕ
   pub unfinished : ℕ
   pub read : ℕ
+  pub place : ℕ
   pub numbers : List ℤ
   pub picture : List ℕ
   pub room : List ℤ
@@ -80,8 +81,8 @@ rebuildingOf wanted k L n bytes b numbers picture room =
     let d = decodingJob k L n numbers bytes b in
     let i = shownJob wanted k L (d .numbers) picture room in
     judged (d .refusal)
-    (λ r. record { refusal = r; unfinished = d .unfinished; read = d .read; numbers = d .numbers; picture = picture; room = room })
-    (record { refusal = i .refusal; unfinished = d .unfinished; read = d .read; numbers = d .numbers; picture = i .picture; room = i .room })
+    (λ r. record { refusal = r; unfinished = d .unfinished; read = d .read; place = d .place; numbers = d .numbers; picture = picture; room = room })
+    (record { refusal = i .refusal; unfinished = d .unfinished; read = d .read; place = d .place; numbers = d .numbers; picture = i .picture; room = i .room })
 
 -- ---- the same, with buffers that are as long as the largest picture needs: the front of each is used
 -- the picture at a place of the input; 3 where a buffer is too short
@@ -104,8 +105,9 @@ rebuildingIn wanted k L n bytes b numbers picture room =
       refusal = r .refusal;
       unfinished = r .unfinished;
       read = r .read;
+      place = r .place;
       numbers = r .numbers ++ drop area numbers;
       picture = r .picture ++ drop shown picture;
       room = r .room ++ drop shown room;
     })
-    (record { refusal = 3; unfinished = 0; read = 0; numbers = numbers; picture = picture; room = room })
+    (record { refusal = 3; unfinished = 0; read = 0; place = 0; numbers = numbers; picture = picture; room = room })

@@ -200,7 +200,7 @@ fn rebuilt(
     picture: &mut [u8],
     room: &mut [i32],
 ) -> Settled
-    ensures { λ r. ⌜ rebuildingOf wanted k levels n (now (bytes .entry)) b (now (numbers .entry)) (now (picture .entry)) (now (room .entry)) ≡ record { refusal = r .refusal; unfinished = r .unfinished; read = r .read; numbers = now (numbers .exit); picture = now (picture .exit); room = now (room .exit) } ⌝ }
+    ensures { λ r. ⌜ rebuildingOf wanted k levels n (now (bytes .entry)) b (now (numbers .entry)) (now (picture .entry)) (now (room .entry)) ≡ record { refusal = r .refusal; unfinished = r .unfinished; read = r .read; place = r .place; numbers = now (numbers .exit); picture = now (picture .exit); room = now (room .exit) } ⌝ }
 {
     let settled = label::decode(k, levels, n, numbers, bytes, b);
     if settled.refusal != 0 {
@@ -211,6 +211,7 @@ fn rebuilt(
         refusal,
         unfinished: settled.unfinished,
         read: settled.read,
+        place: settled.place,
     }
 }
 
@@ -227,7 +228,7 @@ pub fn rebuild(
     picture: &mut [u8],
     room: &mut [i32],
 ) -> Settled
-    ensures { λ r. ⌜ rebuildingIn wanted k levels n (now (bytes .entry)) b (now (numbers .entry)) (now (picture .entry)) (now (room .entry)) ≡ record { refusal = r .refusal; unfinished = r .unfinished; read = r .read; numbers = now (numbers .exit); picture = now (picture .exit); room = now (room .exit) } ⌝ }
+    ensures { λ r. ⌜ rebuildingIn wanted k levels n (now (bytes .entry)) b (now (numbers .entry)) (now (picture .entry)) (now (room .entry)) ≡ record { refusal = r .refusal; unfinished = r .unfinished; read = r .read; place = r .place; numbers = now (numbers .exit); picture = now (picture .exit); room = now (room .exit) } ⌝ }
 {
     let shown = shown_area(wanted, k);
     let area = area(k);
@@ -236,6 +237,7 @@ pub fn rebuild(
             refusal: 3,
             unfinished: 0,
             read: 0,
+            place: 0,
         };
     }
     if picture.len() < shown {
@@ -243,6 +245,7 @@ pub fn rebuild(
             refusal: 3,
             unfinished: 0,
             read: 0,
+            place: 0,
         };
     }
     if room.len() < shown {
@@ -250,6 +253,7 @@ pub fn rebuild(
             refusal: 3,
             unfinished: 0,
             read: 0,
+            place: 0,
         };
     }
     rebuilt(

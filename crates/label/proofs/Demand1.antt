@@ -36,7 +36,7 @@ coding-refuses k L numbers limit bytes = judged-refuses _ _ _ _ _ (λ r l. refl)
 
 -- ---- decoding
 pub decoding-refuses : (k L n : ℕ) (numbers : List ℤ) (bytes : List ℕ) (b : ℕ)
-    → Refuses Lowest (λ (a : Decoding). a .refusal) (decodingRows k L n numbers bytes b) (decodingJob k L n numbers bytes b) (λ r. record { refusal = r; unfinished = 0; read = 0; numbers = numbers })
+    → Refuses Lowest (λ (a : Decoding). a .refusal) (decodingRows k L n numbers bytes b) (decodingJob k L n numbers bytes b) (λ r. record { refusal = r; unfinished = 0; read = 0; place = 0; numbers = numbers })
 unfolding decodingJob decodingRefusal sizesRefusal
 decoding-refuses k L n numbers bytes b = judged-refuses _ _ _ _ _ (λ r l. refl) (λ r. refl) refl Lowest _ refl (lowest 0 _ refl)
 

@@ -1,5 +1,5 @@
 -- Demand 2. A whole record gives back the very picture. Any bits at all, cut anywhere, decode to exactly what the walk has
--- settled, zero for the rest, all of them written, with the true count of unfinished planes. A thumbnail of a whole record is the low
+-- settled, zero for the rest, all of them written, with the true count of unfinished planes and the place where the cut fell. A thumbnail of a whole record is the low
 -- band of the very picture.
 use mathlib.Core.Path.{_≡_, ap, _∙_}
 use mathlib.Core.Bool.{Bool, true}
@@ -24,6 +24,7 @@ use Rattle.square_laws.specs.Picture.{lossless}
 use Rattle.square_laws.specs.Thumbnail.{thumbnail-whole}
 use Rattle.thumbnail.proofs.Refusals.{halvings-few}
 use Rattle.walk_laws.specs.Decoded.{all-bits}
+use Rattle.walk_laws.specs.Place.{Placed, NeverBack, Stay, decoded-placed, first-never-back, first-stay}
 use Rattle.walk_laws.specs.Unfinished.{AllRead, planesRead, unfinished-true}
 use Rattle.record_laws.specs.BothJobs.{room-written}
 use Rattle.record_laws.specs.ReadBack.{bitsIn, every-bit}
@@ -45,6 +46,23 @@ pub any-bits-unfinished : (k L n : ℕ) (numbers : List ℤ) (bytes : List ℕ) 
 any-bits-unfinished k L n numbers bytes b s l e p h r a =
     ap (λ (d : Decoding). d .unfinished) (any-bits k L n numbers bytes b s l e p h) ∙ unfinished-true k L n (take b (bits bytes)) r a
     ∙ ap (λ c. n - planesRead k L n (take b (bits bytes) ++ r) c) (length-take-le b (bits bytes) (omega (arith, bits-length bytes)))
+
+-- Where the cut fell is one of the S² places, and 0 where no plane is unfinished.
+pub any-bits-placed : (k L n : ℕ) (numbers : List ℤ) (bytes : List ℕ) (b : ℕ) → sizeIn k ≡ true → levelsIn k L ≡ true → length numbers ≡ 4 ^ k → planesIn n ≡ true → b ≤ 8 * length bytes
+    → let d = decodingJob k L n numbers bytes b in Placed (4 ^ k) (d .unfinished) (d .place)
+any-bits-placed k L n numbers bytes b s l e p h = rw (any-bits k L n numbers bytes b s l e p h) (decoded-placed k L n (levels-less k L l) (take b (bits bytes)))
+
+-- More of the bits never move unfinished planes and place back.
+pub any-bits-never-back : (k L n : ℕ) (numbers : List ℤ) (bytes : List ℕ) (b c : ℕ) → sizeIn k ≡ true → levelsIn k L ≡ true → length numbers ≡ 4 ^ k → planesIn n ≡ true → b ≤ c → c ≤ 8 * length bytes
+    → let d = decodingJob k L n numbers bytes b in let e = decodingJob k L n numbers bytes c in NeverBack (d .unfinished) (d .place) (e .unfinished) (e .place)
+any-bits-never-back k L n numbers bytes b c s l e p g h =
+    rw (any-bits k L n numbers bytes b s l e p (omega arith), any-bits k L n numbers bytes c s l e p h) (first-never-back k L n (levels-less k L l) (bits bytes) b c g)
+
+-- And what is settled stays: while the same plane runs, no further bit changes a number before the place.
+pub any-bits-stay : (k L n : ℕ) (numbers : List ℤ) (bytes : List ℕ) (b c : ℕ) → sizeIn k ≡ true → levelsIn k L ≡ true → length numbers ≡ 4 ^ k → planesIn n ≡ true → b ≤ c → c ≤ 8 * length bytes
+    → let d = decodingJob k L n numbers bytes b in let e = decodingJob k L n numbers bytes c in Stay (d .unfinished) (e .unfinished) (d .place) (d .numbers) (e .numbers)
+any-bits-stay k L n numbers bytes b c s l e p g h =
+    rw (any-bits k L n numbers bytes b s l e p (omega arith), any-bits k L n numbers bytes c s l e p h) (first-stay k L n (levels-less k L l) (bits bytes) b c g)
 
 -- ---- a whole record
 -- a picture, and room enough for all of its bits; whatever the lent places held
@@ -98,7 +116,7 @@ module _ (o : Origin) (k L : ℕ) (label picture : List ℕ) (limit : ℕ) (numb
     payload-fits = let m : blockBytes * W .blocks / blockBytes ≡ blocksFor (o .edition) (length C) = omega (arith, whole-written .1) in omega (arith, m, enough .payload-holds);
   }
 
-  all-settled : settled k L label picture G o (enough .from) limit numbers (enough .numbers-hold) bytes room fits (blockBytes * W .blocks) payload whole-opens lent (enough .lent-holds) ≡ record { numbers = T; unfinished = 0; read = length C }
+  all-settled : settled k L label picture G o (enough .from) limit numbers (enough .numbers-hold) bytes room fits (blockBytes * W .blocks) payload whole-opens lent (enough .lent-holds) ≡ record { numbers = T; unfinished = 0; read = length C; place = 0 }
   all-settled =
       let m : blockBytes * W .blocks / blockBytes ≡ blocksFor (o .edition) (length (writtenOf k L T limit bytes)) = omega (arith, whole-written .1, blocks-are) in
       let all-left = ap (bitsIn (o .edition) (writtenOf k L T limit bytes)) m ∙ every-bit (o .edition) (writtenOf k L T limit bytes) in
@@ -106,7 +124,7 @@ module _ (o : Origin) (k L : ℕ) (label picture : List ℕ) (limit : ℕ) (numb
 
   -- The whole record, read, decoded and inverted, is the very picture, with no plane unfinished, and says where it was shot.
   pub very-picture : (shown : List ℕ) → length shown ≡ 4 ^ k → (greys : List ℤ) → length greys ≡ 4 ^ k → let S = outOfRecord label whole payload lent shown greys in
-      (S .read .refusal ≡ 0) × (originSeen S ≡ givenBack o) × (S .decoded ≡ record { refusal = 0; unfinished = 0; read = length C; numbers = T }) × (S .rebuilt ≡ record { refusal = 0; picture = picture; room = greysOf k L T })
+      (S .read .refusal ≡ 0) × (originSeen S ≡ givenBack o) × (S .decoded ≡ record { refusal = 0; unfinished = 0; read = length C; place = 0; numbers = T }) × (S .rebuilt ≡ record { refusal = 0; picture = picture; room = greysOf k L T })
   very-picture shown e greys f =
       let out = out-is k L label picture G o (enough .from) limit numbers (enough .numbers-hold) bytes room fits (blockBytes * W .blocks) payload whole-opens lent (enough .lent-holds) shown e greys f in
       let back : pictured k (greysOf k L T) ≡ picture = lossless L k picture (omega (arith, levels-less k L (G .levels))) (G .square) (G .greys) in (

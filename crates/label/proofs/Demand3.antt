@@ -1,6 +1,7 @@
 -- Demand 3. Of a picture coded by the walk keep any first part of its bits, in a stream or in the blocks of a cut record: the
--- wavelet numbers keep three promises, more bits never move a number away from the truth, and after L levels no grey in the
--- rebuilt picture is off by more than (7 L + 1) times 2 ^ p - 1, p the unfinished planes.
+-- wavelet numbers keep three promises, those before the place where the cut fell with p - 1, more bits never move a number away
+-- from the truth, and after L levels no grey in the rebuilt picture is off by more than (7 L + 1) times 2 ^ p - 1, p the unfinished
+-- planes.
 use mathlib.Core.Path.{_≡_, ap}
 use mathlib.Core.List.{List}
 use Prim.Native.Nat.{ℕ, zero, suc, _+_, _*_, _-_, _/_, _^_, _<_, _≤_}
@@ -22,7 +23,8 @@ use Rattle.integer_laws.specs.Difference.{pos-⊖, negsuc-⊖}
 use Rattle.lift.specs.Off.{Over, Off}
 use Rattle.lift.proofs.Near.{overs}
 use Rattle.square_laws.specs.Picture.{lossless, picture-near}
-use Rattle.walk_laws.specs.Decoded.{Truthful, decodedFirst, decoded-truthful, decoded-never-worse}
+use Rattle.walk_laws.specs.Decoded.{Truthful, decodedFirst, decoded-truthful, decoded-truthful-before, decoded-never-worse}
+use Rattle.walk_laws.specs.Place.{NeverBack, first-never-back}
 use Rattle.walk_laws.specs.Read.{decoded-length}
 use Rattle.record_laws.specs.ReadBack.{bitsIn}
 use Rattle.label.specs.Journey.{intoRecord, Seen, originSeen, outOfRecord}
@@ -85,6 +87,14 @@ module _ (k L : ℕ) (label picture : List ℕ) (given : Given k L label picture
   pub numbers-truthful : (b i : ℕ) → Truthful ((first b) .unfinished) (at true-numbers i) (at ((first b) .numbers) i)
   numbers-truthful = decoded-truthful k L true-numbers (levels-less k L (given .levels)) N (truth-given k L label picture given .small)
 
+  -- Those before the place where the cut fell keep the three promises with p - 1.
+  pub numbers-truthful-before : (b i : ℕ) → i < (first b) .place → Truthful ((first b) .unfinished - 1) (at true-numbers i) (at ((first b) .numbers) i)
+  numbers-truthful-before = decoded-truthful-before k L true-numbers (levels-less k L (given .levels)) N (truth-given k L label picture given .small)
+
+  -- Keeping more bits never moves p and the place back.
+  pub never-back : (b c : ℕ) → b ≤ c → NeverBack ((first b) .unfinished) ((first b) .place) ((first c) .unfinished) ((first c) .place)
+  never-back b c = first-never-back k L (way.n k L label picture given) (levels-less k L (given .levels)) (way.code k L label picture given) b c
+
   -- Keeping more bits never moves a number away from the truth.
   pub never-away : (b c i : ℕ) → b ≤ c → natAbs (at true-numbers i -ℤ at ((first c) .numbers) i) ≤ natAbs (at true-numbers i -ℤ at ((first b) .numbers) i)
   never-away = decoded-never-worse k L true-numbers (levels-less k L (given .levels)) N (truth-given k L label picture given .small)
@@ -137,6 +147,12 @@ module _ (k L : ℕ) (label picture : List ℕ) (given : Given k L label picture
       pub cut-truthful : (i : ℕ) → Truthful (seen m .decoded .unfinished) (at true-numbers i) (at (seen m .decoded .numbers) i)
       cut-truthful i = rw (cut-unfinished, cut-numbers) (numbers-truthful (left m) i)
 
+      pub cut-place : seen m .decoded .place ≡ (first (left m)) .place
+      cut-place = ap (λ (s : Seen). s .decoded .place) seen-is
+
+      pub cut-truthful-before : (i : ℕ) → i < seen m .decoded .place → Truthful (seen m .decoded .unfinished - 1) (at true-numbers i) (at (seen m .decoded .numbers) i)
+      cut-truthful-before i h = rw (cut-unfinished, cut-numbers) (numbers-truthful-before (left m) i (omega (arith, cut-place)))
+
       pub cut-grey-limit : (place : ℕ) → place < 4 ^ k
           → (getD (seen m .rebuilt .picture) place 0 ≤ getD picture place 0 + (7 * L + 1) * (2 ^ (seen m .decoded .unfinished) - 1))
           × (getD picture place 0 ≤ getD (seen m .rebuilt .picture) place 0 + (7 * L + 1) * (2 ^ (seen m .decoded .unfinished) - 1))
@@ -147,9 +163,13 @@ module _ (k L : ℕ) (label picture : List ℕ) (given : Given k L label picture
           × (getD picture place 0 ≤ getD (seen m .rebuilt .picture) place 0 + greyLimit L (seen m .decoded .unfinished))
       cut-grey-limit-told place h = rw (cut-unfinished, cut-picture) (grey-limit-told (left m) place h)
 
-    -- A longer part of the record never moves a number away from the truth.
+    left-more : (m l : ℕ) → m ≤ l → left m ≤ left l
+    left-more m l h = omega (arith, mul-le-mul-left {m = m / blockBytes} {n = l / blockBytes} (payloadBits (startOf (o .edition))) (omega arith))
+
+    -- A longer part of the record never moves a number away from the truth, nor p and the place back.
     pub cut-never-away : (m l : ℕ) → Open m → Open l → m ≤ l → (i : ℕ)
         → natAbs (at true-numbers i -ℤ at (seen l .decoded .numbers) i) ≤ natAbs (at true-numbers i -ℤ at (seen m .decoded .numbers) i)
-    cut-never-away m l p q h i =
-        let more = mul-le-mul-left {m = m / blockBytes} {n = l / blockBytes} (payloadBits (startOf (o .edition))) (omega arith) in
-        rw (cut-numbers m p, cut-numbers l q) (never-away (left m) (left l) i (omega arith))
+    cut-never-away m l p q h i = rw (cut-numbers m p, cut-numbers l q) (never-away (left m) (left l) i (left-more m l h))
+
+    pub cut-never-back : (m l : ℕ) → Open m → Open l → m ≤ l → NeverBack (seen m .decoded .unfinished) (seen m .decoded .place) (seen l .decoded .unfinished) (seen l .decoded .place)
+    cut-never-back m l p q h = rw (cut-unfinished m p, cut-place m p, cut-unfinished l q, cut-place l q) (never-back (left m) (left l) (left-more m l h))

@@ -87,7 +87,7 @@ abbrev pub decode-job : (κs : Lfts 2) → ArgsD decode-fn.signature κs → Dec
 decode-job κs a = decodingJob (a .0) (a .1 .0) (a .1 .1 .0) (now (a .1 .1 .1 .0)) (now (a .1 .1 .1 .1 .0)) (a .1 .1 .1 .1 .1 .0)
 
 abbrev pub decode-outcome : (κs : Lfts 2) → ResD decode-fn.signature κs → AtExit (endedOf 2 decode-kinds.ps decode-kinds.r) κs → Decoding
-decode-outcome κs r s = record { refusal = r .refusal; unfinished = r .unfinished; read = r .read; numbers = now (s .1 .1 .1 .0) }
+decode-outcome κs r s = record { refusal = r .refusal; unfinished = r .unfinished; read = r .read; place = r .place; numbers = now (s .1 .1 .1 .0) }
 
 pub decode-takes : (κs : Lfts 2) → Takes (decode-contract.Pre κs)
 decode-takes κs a = tt

@@ -41,6 +41,13 @@ always-n contract = let z : _≡_ {A = ℕ} 2 3 = sym (ap (λ (a : Decoding). a 
 pub always-0 : (cut 7) .unfinished ≡ 0 → ⊥
 always-0 contract = let z : _≡_ {A = ℕ} 2 0 = sym (ap (λ (a : Decoding). a .unfinished) (checked .P6)) ∙ contract in omega arith
 
+-- a made-up place: 0 always, or where the bits end; P5's three bits have settled one number
+pub never-placed : (cut 3) .place ≡ 0 → ⊥
+never-placed contract = let z : _≡_ {A = ℕ} 1 0 = sym (ap (λ (a : Decoding). a .place) (checked .P5)) ∙ contract in omega arith
+
+pub place-of-bits : (cut 3) .place ≡ 3 → ⊥
+place-of-bits contract = let z : _≡_ {A = ℕ} 1 3 = sym (ap (λ (a : Decoding). a .place) (checked .P5)) ∙ contract in omega arith
+
 -- a reader that uses block 0 and only nods at the others: a record of a full block and 8 bits more has a byte in its second block, so the count,
 -- the bits and the payload of block 0 alone are each refuted
 abbrev two : List ℕ

@@ -32,10 +32,10 @@ pub fn code(k: u32, levels: u32, numbers: &[i32], limit: usize, bytes: &mut [u8]
     coding::code(k, levels, numbers, limit, bytes)
 }
 
-// Writes all S² numbers: what the first b bits settle, and 0 elsewhere. Gives the unfinished planes and the bits read.
-// Refusals 1, 2, 3, 5, 6.
+// Writes all S² numbers: what the first b bits settle, and 0 elsewhere. Gives the unfinished planes, the bits read, and the place
+// where the cut fell: the lowest not yet settled in the running plane, 0 where none is running. Refusals 1, 2, 3, 5, 6.
 pub fn decode(k: u32, levels: u32, n: u32, numbers: &mut [i32], bytes: &[u8], b: usize) -> Settled
-    ensures { λ r. ⌜ decodingJob k levels n (now (numbers .entry)) (now (bytes .entry)) b ≡ record { refusal = r .refusal; unfinished = r .unfinished; read = r .read; numbers = now (numbers .exit) } ⌝ }
+    ensures { λ r. ⌜ decodingJob k levels n (now (numbers .entry)) (now (bytes .entry)) b ≡ record { refusal = r .refusal; unfinished = r .unfinished; read = r .read; place = r .place; numbers = now (numbers .exit) } ⌝ }
 {
     decoding::decode(k, levels, n, numbers, bytes, b)
 }

@@ -102,15 +102,19 @@ pub record Checked : Type 0 where
   pub P1 : lineForward (pos 1 ∷ pos 2 ∷ pos 3 ∷ pos 4 ∷ []) ≡ pos 1 ∷ pos 3 ∷ pos 0 ∷ pos 1 ∷ []
   pub P2 : lineForward (pos 0 ∷ negsuc 0 ∷ negsuc 0 ∷ pos 0 ∷ []) ≡ pos 0 ∷ negsuc 0 ∷ pos 0 ∷ pos 1 ∷ []
   pub P3 : coded five (0xFF ∷ 0xFF ∷ 0xFF ∷ 0xFF ∷ []) ≡ record { refusal = 0; written = 17; n = 3; bytes = 0xC0 ∷ 0x08 ∷ 0x00 ∷ 0xFF ∷ [] }
-  pub P4 : cut 2 ≡ record { refusal = 0; unfinished = 3; read = 2; numbers = zeros 64 }
-  pub P5 : cut 3 ≡ record { refusal = 0; unfinished = 3; read = 3; numbers = four }
-  pub P6 : cut 7 ≡ record { refusal = 0; unfinished = 2; read = 7; numbers = four }
-  pub P7 : cut 13 ≡ record { refusal = 0; unfinished = 1; read = 13; numbers = five }
+  pub P4 : cut 2 ≡ record { refusal = 0; unfinished = 3; read = 2; place = 0; numbers = zeros 64 }
+  pub P5 : cut 3 ≡ record { refusal = 0; unfinished = 3; read = 3; place = 1; numbers = four }
+  pub P6 : cut 7 ≡ record { refusal = 0; unfinished = 2; read = 7; place = 0; numbers = four }
+  pub P7 : cut 13 ≡ record { refusal = 0; unfinished = 1; read = 13; place = 1; numbers = five }
   pub P8 : coded minusThree (0xFF ∷ 0xFF ∷ 0xFF ∷ []) ≡ record { refusal = 0; written = 19; n = 2; bytes = 0x48 ∷ 0xC0 ∷ 0x40 ∷ [] }
   pub P9 : forwardJob 3 2 (replicate 64 128) last ≡ record { refusal = 0; n = 0; numbers = zeros 64 }
   pub P9-bits : coded (zeros 64) (0xFF ∷ []) ≡ record { refusal = 0; written = 0; n = 0; bytes = 0xFF ∷ [] }
-  pub P9-planes : decodingJob 3 2 0 last [] 0 ≡ record { refusal = 0; unfinished = 0; read = 0; numbers = zeros 64 }
+  pub P9-planes : decodingJob 3 2 0 last [] 0 ≡ record { refusal = 0; unfinished = 0; read = 0; place = 0; numbers = zeros 64 }
   pub P10 : forwardJob 3 2 (replicate 64 255) last ≡ record { refusal = 0; n = 7; numbers = replicate 4 (pos 127) ++ zeros 60 }
+  -- where the cut fell, of P3 cut at 0 to 17 bits: the first number is found by bits 2 and 3, and each closed rest ends a plane
+  pub places : made 18 (λ b. (cut b) .place) ≡ 0 ∷ 0 ∷ 0 ∷ 1 ∷ 2 ∷ 3 ∷ 4 ∷ 0 ∷ 1 ∷ 2 ∷ 3 ∷ 4 ∷ 0 ∷ 1 ∷ 2 ∷ 3 ∷ 4 ∷ 0 ∷ []
+  -- and of P8 cut at 0 to 19: a closed set of four settles them all, an open rest and an open set none
+  pub places-closed : made 20 (λ b. (decodingJob 3 2 2 last (0x48 ∷ 0xC0 ∷ 0x40 ∷ []) b) .place) ≡ 0 ∷ 4 ∷ 4 ∷ 8 ∷ 12 ∷ 12 ∷ 13 ∷ 14 ∷ 15 ∷ 15 ∷ 16 ∷ 0 ∷ 4 ∷ 8 ∷ 12 ∷ 13 ∷ 14 ∷ 15 ∷ 16 ∷ 0 ∷ []
   pub P11 : zOf 3 (6 * 8 + 7) ≡ 61
   -- one level of a single grey that differs, in row 0, column 2: low -1 3 0 0 along the row, then 0 3 0 0 down the columns
   pub low-band : lowGreysOf 3 1 (128 ∷ 128 ∷ 132 ∷ replicate 61 128) ≡ pos 128 ∷ pos 131 ∷ replicate 14 (pos 128)
@@ -170,4 +174,4 @@ pub record Checked : Type 0 where
 
 pub checked : Checked
 unfolding sizeIn levelsIn halvingsIn planesIn numbersIn mostBits made joined editionIn armIn originIn startOf named namedOf originRight madeBlock said lentRefusal firstRefusal firstInTurn firstReading highOf lowOf highAt lowAt lineForward oddOf evenOf evenAt oddAt woven lineBack interleaved columnOf rowOf zOf rasterOf placeOf lineOf spotOf line along levelForward levelBack onFirst levelsForward levelsBack lowered raised grey pictured numbersOf greysOf lowBand lowGreysOf thumbnailOf bitOf reaches largest bitsNeeded planeCount testSet refined begun walkNumber _next_ walkNumbers walkSet walkRest walkPlane walkPlanes codeOf decodeOf bits byteOf packed laid allZero labelCharacter labelCharacters isLabel sameBytes plainSum weighedSum header sealed payloadOf checksRight fieldsRight blockRefusal blockOf recordOf inTurn turnRefusal runFrom bitsKept payloadKept sizesRefusal forwardRefusal forwardJob codingRefusal writtenOf codingJob decodingRefusal decodingJob thumbnailRefusal thumbnailJob writingRefusal writingJob readingRefusal readingJob
-checked = record { P1 = refl; P2 = refl; P3 = refl; P4 = refl; P5 = refl; P6 = refl; P7 = refl; P8 = refl; P9 = refl; P9-bits = refl; P9-planes = refl; P10 = refl; P11 = refl; low-band = refl; thumbnail-early = refl; thumbnail-smallest = refl; thumbnail-beyond = refl; thumbnail-unhalved = refl; thumbnail-deep = refl; thumbnail-levels = refl; block = refl; label = refl; zeros-kept = refl; block-L6 = refl; label-L6 = refl; block-arm-2 = refl; label-arm-2 = refl; first-refuses = refl; first-reads-none = refl; first-reads = refl; first-limits = refl; first-ends = refl; editions = refl; arms = refl; mounts = refl; editions-checked = refl; arms-checked = refl; edition-before-room = refl; room-before-arm = refl; label-before-arm = refl; room-of-edition = refl; counts = refl; counts-2 = refl; block-counts = refl; agree = refl; disagree = refl; checks = refl; every-character = refl; characters = refl; no-characters = refl }
+checked = record { P1 = refl; P2 = refl; P3 = refl; P4 = refl; P5 = refl; P6 = refl; P7 = refl; P8 = refl; P9 = refl; P9-bits = refl; P9-planes = refl; P10 = refl; places = refl; places-closed = refl; P11 = refl; low-band = refl; thumbnail-early = refl; thumbnail-smallest = refl; thumbnail-beyond = refl; thumbnail-unhalved = refl; thumbnail-deep = refl; thumbnail-levels = refl; block = refl; label = refl; zeros-kept = refl; block-L6 = refl; label-L6 = refl; block-arm-2 = refl; label-arm-2 = refl; first-refuses = refl; first-reads-none = refl; first-reads = refl; first-limits = refl; first-ends = refl; editions = refl; arms = refl; mounts = refl; editions-checked = refl; arms-checked = refl; edition-before-room = refl; room-before-arm = refl; label-before-arm = refl; room-of-edition = refl; counts = refl; counts-2 = refl; block-counts = refl; agree = refl; disagree = refl; checks = refl; every-character = refl; characters = refl; no-characters = refl }

@@ -63,11 +63,12 @@ codingJob k L numbers limit bytes =
       bytes = laid (writtenOf k L numbers limit bytes) bytes;
     })
 
--- ---- decoding, of the first b bits: writes all S² numbers, gives unfinished planes and bits read
+-- ---- decoding, of the first b bits: writes all S² numbers, gives unfinished planes, bits read, and the place where the cut fell
 pub record Decoding : Type 0 where
   pub refusal : ℕ
   pub unfinished : ℕ
   pub read : ℕ
+  pub place : ℕ
   pub numbers : List ℤ
 
 unfoldable pub decodingRefusal : ℕ → ℕ → ℕ → List ℤ → List ℕ → ℕ → ℕ
@@ -76,12 +77,12 @@ decodingRefusal k L n numbers bytes b =
 
 -- whatever the number slice held before, it ends with what the bits have settled
 abbrev pub settledJob : Settled → Decoding
-settledJob s = record { refusal = 0; unfinished = s .unfinished; read = s .read; numbers = s .numbers }
+settledJob s = record { refusal = 0; unfinished = s .unfinished; read = s .read; place = s .place; numbers = s .numbers }
 
 unfoldable pub decodingJob : ℕ → ℕ → ℕ → List ℤ → List ℕ → ℕ → Decoding
 decodingJob k L n numbers bytes b =
     judged (decodingRefusal k L n numbers bytes b)
-    (λ r. record { refusal = r; unfinished = 0; read = 0; numbers = numbers })
+    (λ r. record { refusal = r; unfinished = 0; read = 0; place = 0; numbers = numbers })
     (settledJob (decodeOf k L n (take b (bits bytes))))
 
 -- ---- inverse: fills the picture; the working room ends with the greys before they are set into 0 to 255, in Z order

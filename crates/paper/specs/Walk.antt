@@ -3,11 +3,12 @@
 use mathlib.Core.Bool.{Bool, true, false}
 use mathlib.Core.Option.{Option, none, some}
 use mathlib.Core.List.{List, [], _∷_, _++_}
-use Prim.Native.Nat.{ℕ, zero, suc, _+_, _*_, _-_, _/_, _%_, _^_, max}
-use lib.Dec.{leb, eqb}
+use Prim.Native.Nat.{ℕ, zero, suc, _+_, _-_, _/_, _%_, _^_, max}
+use lib.Dec.{leb, ltb, eqb}
 use lib.IntN.{ℤ, pos, negsuc, negℤ, natAbs}
 use lib.ListN.{length, take, drop, replicate}
 use Rattle.paper.specs.Sizes.{mostPlanes}
+use Rattle.paper.specs.Lists.{pick}
 
 -- ---- numbers, by sign and magnitude
 abbrev pub negative : ℤ → Bool
@@ -46,13 +47,28 @@ unfoldable pub planeCount : List ℤ → ℕ
 planeCount xs = bitsNeeded mostPlanes (largest xs)
 
 -- ---- the walk
--- How bits come and go. `ask b`: one bit is due, and the numbers held say b; `none` if the bit is not there.
--- `hold x y`: x is held, and the bits now say y. `missed`: was a bit due that was not there?
+-- What a bit is due on: a test of so many places in order (a set, the rest, or a number below 2T), one more bit of a number
+-- that is 2T or more, or a sign.
+pub data Due : Type 0 where
+  test : ℕ → Due
+  more : Due
+  sign : Due
+
+-- The lowest place not yet settled in the plane, after a bit: a closed set settles all its places, an open test none (so a 1 that
+-- lacks its sign does not settle its number), one more bit and a sign their number.
+abbrev pub placeAfter : Due → Bool → ℕ → ℕ
+placeAfter (Due.test places) false place = place + places
+placeAfter (Due.test places) true place = place
+placeAfter Due.more b place = place + 1
+placeAfter Due.sign b place = place + 1
+
+-- How bits come and go. `ask due b`: one bit is due, and the numbers held say b; `none` if the bit is not there.
+-- `hold x y`: x is held, and the bits now say y. `missed`, behind each plane: was a bit due that was not there?
 pub record Reading : Type 1 where
   pub M : Type 0 → Type 0
   pub done : {A : Type 0} → A → M A
   pub then : {A B : Type 0} → M A → (A → M B) → M B
-  pub ask : Bool → M (Option Bool)
+  pub ask : Due → Bool → M (Option Bool)
   pub hold : ℤ → ℤ → ℤ
   pub missed : M Bool
 
@@ -71,7 +87,7 @@ module _ (R : Reading) where
   testSet p xs = elim (reaches (2 ^ suc p) xs) [
     | true ↦ R .done true
     | false ↦ (do
-      b ← R .ask (reaches (2 ^ p) xs)
+      b ← R .ask (Due.test (length xs)) (reaches (2 ^ p) xs)
       R .done (isOne b))
   ]
 
@@ -90,13 +106,13 @@ module _ (R : Reading) where
   unfoldable pub walkNumber : ℕ → ℤ → R .M (List ℤ)
   walkNumber p x = elim (leb (2 ^ suc p) (natAbs x)) [
     | true ↦ (do
-      b ← R .ask (bitOf p (natAbs x))
+      b ← R .ask Due.more (bitOf p (natAbs x))
       R .done (refined p x b ∷ []))
     | false ↦ (do
-      b ← R .ask (leb (2 ^ p) (natAbs x))
+      b ← R .ask (Due.test 1) (leb (2 ^ p) (natAbs x))
       elim (isOne b) [
         | true ↦ (do
-          s ← R .ask (negative x)
+          s ← R .ask Due.sign (negative x)
           R .done (begun p x s ∷ []))
         | false ↦ R .done (x ∷ [])
       ])
@@ -166,19 +182,25 @@ Coder = record {
   M = λ A. A × List Bool;
   done = λ a. (a, []);
   then = λ m f. let r = f (m .0) in (r .0, m .1 ++ r .1);
-  ask = λ b. (some b, b ∷ []);
+  ask = λ due b. (some b, b ∷ []);
   hold = λ x y. x;
   missed = (false, []);
 }
 
--- the bits that are left, and whether one was missed
+-- the bits that are left, whether one was missed, and the lowest place not yet settled in the running plane
 pub record Tape : Type 0 where
   pub left : List Bool
   pub missed : Bool
+  pub place : ℕ
 
-abbrev pub nextBit : List Bool → Bool → Option Bool × Tape
-nextBit [] m = (none, record { left = []; missed = true })
-nextBit (b ∷ l) m = (some b, record { left = l; missed = m })
+-- a bit that is not there settles nothing
+abbrev pub nextBit : Due → List Bool → Bool → ℕ → Option Bool × Tape
+nextBit due [] m place = (none, record { left = []; missed = true; place = place })
+nextBit due (b ∷ l) m place = (some b, record { left = l; missed = m; place = placeAfter due b place })
+
+-- behind a plane: where no bit was missed it is finished, and of the next one nothing is settled
+abbrev pub behindPlane : Tape → Tape
+behindPlane t = record { left = t .left; missed = t .missed; place = pick (t .missed) (t .place) 0 }
 
 -- the decoder holds what the bits have said so far; a number's unread bits are zero
 abbrev pub Decoder : Reading
@@ -186,9 +208,9 @@ Decoder = record {
   M = λ A. (Tape → A × Tape);
   done = λ a t. (a, t);
   then = λ m f t. let r = m t in f (r .0) (r .1);
-  ask = λ b t. nextBit (t .left) (t .missed);
+  ask = λ due b t. nextBit due (t .left) (t .missed) (t .place);
   hold = λ x y. y;
-  missed = λ t. (t .missed, t);
+  missed = λ t. (t .missed, behindPlane t);
 }
 
 -- the depth d of the first set, which has (S / 2 ^ L)² = 4 ^ suc d places
@@ -199,13 +221,19 @@ depth k L = k - suc L
 unfoldable pub codeOf : ℕ → ℕ → List ℤ → List Bool
 codeOf k L xs = (walkPlanes Coder (depth k L) L (planeCount xs) xs) .1
 
--- what bits decode to: the numbers settled, zero elsewhere; the planes unfinished; the bits read
+-- what bits decode to: the numbers settled, zero elsewhere; the planes unfinished; the bits read; the lowest place not yet settled
+-- in the running plane, 0 where none is running
 pub record Settled : Type 0 where
   pub numbers : List ℤ
   pub unfinished : ℕ
   pub read : ℕ
+  pub place : ℕ
 
 unfoldable pub decodeOf : ℕ → ℕ → ℕ → List Bool → Settled
 decodeOf k L n l =
-    let r = walkPlanes Decoder (depth k L) L n (replicate (4 ^ k) (pos 0)) (record { left = l; missed = false }) in
-    record { numbers = r .0 .0; unfinished = r .0 .1; read = length l - length (r .1 .left) }
+    let r = walkPlanes Decoder (depth k L) L n (replicate (4 ^ k) (pos 0)) (record { left = l; missed = false; place = 0 }) in
+    record { numbers = r .0 .0; unfinished = r .0 .1; read = length l - length (r .1 .left); place = r .1 .place }
+
+-- the low bits of number i that are unread where p planes are unfinished: the running plane has settled those before its place
+unfoldable pub unreadAt : ℕ → ℕ → ℕ → ℕ
+unreadAt p place i = pick (ltb i place) (p - 1) p

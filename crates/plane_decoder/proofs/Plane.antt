@@ -10,6 +10,7 @@ use Rattle.walk_laws.specs.Room.{Room, room-take, room-drop}
 use Rattle.shapes.specs.Shapes.{IsSquare}
 use Rattle.shapes.proofs.Cuts.{first-fits, square-set, square-rest}
 use Rattle.shapes.proofs.Walks.{plane-ran}
+use Rattle.set_decoder.specs.declared.Here.{Here}
 use Rattle.set_decoder.specs.Walked.{Walked}
 use Rattle.set_decoder.proofs.Run.{decoder}
 use Rattle.set_decoder.proofs.Set.{SetRead}
@@ -23,10 +24,10 @@ pub rest-room : (k q : ℕ) (xs : List ℤ) → Room k xs → q ≤ length xs �
 rest-room k q xs w n z1 k1 = rw (rest-is q xs n z1 k1) (room-drop k q xs w)
 
 -- a plane read, whatever its depth
-abbrev pub PlaneRead : ℕ → List ℕ → ℕ → ℕ → List ℤ → ℕ → List ℤ → ℕ → Type 0
+abbrev pub PlaneRead : ℕ → List ℕ → ℕ → ℕ → List ℤ → Here → List ℤ → Here → Type 0
 PlaneRead p bytes b q xs s zs t = (K : IsSquare xs q) → Walked (walkPlane Decoder (K .d) (K .L) p xs) bytes b s zs t
 
-pub plane-read : (p : ℕ) (bytes : List ℕ) (b : ℕ) (xs : List ℤ) {q s t u : ℕ} (z1 : List ℤ) → length z1 ≡ length (part1 q xs) → (z2 : List ℤ)
+pub plane-read : (p : ℕ) (bytes : List ℕ) (b : ℕ) (xs : List ℤ) {q : ℕ} {s t u : Here} (z1 : List ℤ) → length z1 ≡ length (part1 q xs) → (z2 : List ℤ)
     → SetRead p bytes b (part1 q xs) s z1 t → RestRead p bytes b q (rest q xs z1) t z2 u → PlaneRead p bytes b q xs s (after-rest q xs z1 z2) u
 plane-read p bytes b xs {q} {s} {t} {u} z1 k1 z2 X Y K =
     let n = first-fits K in

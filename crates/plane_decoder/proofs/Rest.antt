@@ -10,15 +10,16 @@ use Rattle.list_laws.specs.Parts.{part1, part2, part3, part4, after4, part4-is,
 use Rattle.shapes.specs.Shapes.{IsRest}
 use Rattle.shapes.proofs.Cuts.{Onward, rest-behind}
 use Rattle.shapes.proofs.Walks.{rest-onward}
+use Rattle.set_decoder.specs.declared.Here.{Here}
 use Rattle.set_decoder.specs.Walked.{Walked}
 use Rattle.set_decoder.proofs.Run.{decoder}
 use Rattle.set_decoder.proofs.Set.{SetRead, three-read}
 
 -- the rest read, whatever its depth
-abbrev pub RestRead : ℕ → List ℕ → ℕ → ℕ → List ℤ → ℕ → List ℤ → ℕ → Type 0
+abbrev pub RestRead : ℕ → List ℕ → ℕ → ℕ → List ℤ → Here → List ℤ → Here → Type 0
 RestRead p bytes b q xs s zs t = (K : IsRest xs q) → Walked (walkRest Decoder p (K .d) (K .left) xs) bytes b s zs t
 
-pub onward-read : (p : ℕ) (bytes : List ℕ) (b : ℕ) (xs : List ℤ) {q at s t₁ t₂ t₃ t₄ : ℕ} {o : Bool} → Walked (testSet Decoder p xs) bytes b at o s → (O : Onward xs q) → o ≡ true
+pub onward-read : (p : ℕ) (bytes : List ℕ) (b : ℕ) (xs : List ℤ) {q : ℕ} {at s t₁ t₂ t₃ t₄ : Here} {o : Bool} → Walked (testSet Decoder p xs) bytes b at o s → (O : Onward xs q) → o ≡ true
     → (z1 : List ℤ) (k1 : length z1 ≡ length (part1 q xs)) (z2 : List ℤ) (k2 : length z2 ≡ length (part2 q xs z1)) (z3 : List ℤ) (k3 : length z3 ≡ length (part3 q xs z1 z2)) (z4 : List ℤ)
     → SetRead p bytes b (part1 q xs) s z1 t₁ → SetRead p bytes b (part2 q xs z1) t₁ z2 t₂ → SetRead p bytes b (part3 q xs z1 z2) t₂ z3 t₃ → RestRead p bytes b (q + q + q + q) (part4 q xs z1 z2 z3) t₃ z4 t₄
     → RestRead p bytes b q xs at (after4 q xs z1 z2 z3 z4) t₄

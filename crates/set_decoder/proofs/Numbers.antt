@@ -10,65 +10,78 @@ use lib.Dec.{ltb, leb}
 use lib.IntN.{ℤ, natAbs}
 use borrow.Author.Tests.{lt-ltb, le-ltb, le-leb, lt-leb, leb-true, leb-false}
 use Rattle.paper.specs.Lists.{pick}
-use Rattle.paper.specs.Walk.{negative, signed, isOne, Decoder, walkNumber, refined, begun}
+use Rattle.paper.specs.Walk.{negative, signed, Due, placeAfter, isOne, Decoder, Tape, walkNumber, refined, begun}
 use Rattle.walk_laws.specs.Cleared.{signed-self}
 use Rattle.walk_laws.specs.Asks.{number-known, number-asks, afterBit}
 use Rattle.bits.specs.Bits.{tapeOf}
 use Rattle.bits.specs.declared.Answer.{Answer}
-use Rattle.bits.proofs.OneBit.{heard, ReadBit, heard-is, heard-one}
-use Rattle.set_decoder.specs.Walked.{Walked}
+use Rattle.bits.proofs.OneBit.{heard, placeHeard, ReadBit, heard-is, heard-one, open-still}
+use Rattle.set_decoder.specs.declared.Here.{Here}
+use Rattle.set_decoder.specs.Walked.{tapeAt, Walked, behindBit}
 
-module _ (p : ℕ) (x : ℤ) {bytes : List ℕ} {b at : ℕ} {r : Answer} (R : ReadBit bytes b at r) where
-  asked-known : 2 ^ suc p ≤ natAbs x → walkNumber Decoder p x (tapeOf bytes b at) ≡ (refined Decoder p x (heard b (r .one) (r .at)) ∷ [], tapeOf bytes b (r .at))
-  asked-known h = ap (λ f. f (tapeOf bytes b at)) (number-known Decoder p x (le-leb (2 ^ suc p) (natAbs x) h)) ∙ ap (λ q. (refined Decoder p x (q .0) ∷ [], q .1)) (R .read)
+module _ (p : ℕ) (x : ℤ) {bytes : List ℕ} {b : ℕ} (here : Here) {r : Answer} (R : ReadBit bytes b (here .at) r) where
+  abbrev z : ℕ
+  z = here .place
 
-  asked-new : natAbs x < 2 ^ suc p → walkNumber Decoder p x (tapeOf bytes b at) ≡ afterBit Decoder p x (r .one) (tapeOf bytes b (r .at))
+  -- the tape behind the bit, which is due on a test of one place, or is one more bit
+  abbrev behind : Due → Tape
+  behind due = tapeOf bytes b (r .at) (placeHeard due b r z)
+
+  asked-known : 2 ^ suc p ≤ natAbs x → walkNumber Decoder p x (tapeAt bytes b here) ≡ (refined Decoder p x (heard b (r .one) (r .at)) ∷ [], behind Due.more)
+  unfolding tapeOf
+  asked-known h = ap (λ f. f (tapeAt bytes b here)) (number-known Decoder p x (le-leb (2 ^ suc p) (natAbs x) h)) ∙ ap (λ q. (refined Decoder p x (q .0) ∷ [], q .1)) (R .read Due.more z)
+
+  asked-new : natAbs x < 2 ^ suc p → walkNumber Decoder p x (tapeAt bytes b here) ≡ afterBit Decoder p x (r .one) (behind (Due.test 1))
+  unfolding tapeOf
   asked-new h =
-      ap (λ f. f (tapeOf bytes b at)) (number-asks Decoder p x (lt-leb (2 ^ suc p) (natAbs x) h))
-      ∙ ap (λ q. afterBit Decoder p x (isOne Decoder (q .0)) (q .1)) (R .read) ∙ ap (λ o. afterBit Decoder p x o (tapeOf bytes b (r .at))) (heard-is R)
+      ap (λ f. f (tapeAt bytes b here)) (number-asks Decoder p x (lt-leb (2 ^ suc p) (natAbs x) h))
+      ∙ ap (λ q. afterBit Decoder p x (isOne Decoder (q .0)) (q .1)) (R .read (Due.test 1) z) ∙ ap (λ o. afterBit Decoder p x o (behind (Due.test 1))) (heard-is R)
 
   -- no bit, or a 0
-  pub number-still : (y : ℤ) → y ≡ x → r .one ≡ false → Walked (walkNumber Decoder p x) bytes b at (y ∷ []) (r .at)
+  pub number-still : (y : ℤ) {t : Here} → y ≡ x → r .one ≡ false → t ≡ behindBit b (r .at) z 1 → Walked (walkNumber Decoder p x) bytes b here (y ∷ []) t
   unfolding refined
-  number-still y ey e = record { is = go (leb (2 ^ suc p) (natAbs x)) refl ∙ ap (λ y. (y ∷ [], tapeOf bytes b (r .at))) (sym ey); near = R .near }
+  number-still y {t} ey e et = record { is = go (leb (2 ^ suc p) (natAbs x)) refl ∙ (λ i. (sym ey i ∷ [], tapeAt bytes b (sym et i))); near = rw et (R .near) }
     where
       still : (m : Bool) → refined Decoder p x (pick m none (some false)) ≡ x
       still true = refl
       still false = ap (signed (negative x)) (add-zero (natAbs x)) ∙ signed-self x
 
-      go : (k : Bool) → leb (2 ^ suc p) (natAbs x) ≡ k → walkNumber Decoder p x (tapeOf bytes b at) ≡ (x ∷ [], tapeOf bytes b (r .at))
-      go true k = asked-known (leb-true (2 ^ suc p) (natAbs x) k) ∙ ap (λ o. (refined Decoder p x (heard b o (r .at)) ∷ [], tapeOf bytes b (r .at))) e ∙ ap (λ y. (y ∷ [], tapeOf bytes b (r .at))) (still (ltb b (r .at)))
-      go false k = asked-new (leb-false (2 ^ suc p) (natAbs x) k) ∙ ap (λ o. afterBit Decoder p x o (tapeOf bytes b (r .at))) e
+      go : (k : Bool) → leb (2 ^ suc p) (natAbs x) ≡ k → walkNumber Decoder p x (tapeAt bytes b here) ≡ (x ∷ [], tapeAt bytes b (behindBit b (r .at) z 1))
+      go true k = asked-known (leb-true (2 ^ suc p) (natAbs x) k) ∙ ap (λ o. (refined Decoder p x (heard b o (r .at)) ∷ [], behind Due.more)) e ∙ ap (λ y. (y ∷ [], behind Due.more)) (still (ltb b (r .at)))
+      go false k = asked-new (leb-false (2 ^ suc p) (natAbs x) k) ∙ ap (λ o. afterBit Decoder p x o (tapeOf bytes b (r .at) (pick (ltb b (r .at)) z (placeAfter (Due.test 1) o z)))) e
 
   -- T as the code has it, and the magnitude against 2T
   module _ (t m : ℕ) (et : t ≡ 2 ^ p) (em : m ≡ natAbs x) where
     twice : 2 * t ≡ 2 ^ suc p
     twice = ap (λ k. 2 * k) et ∙ sym (pow-succ' 2 p)
 
-    pub number-grown : (y : ℤ) → 2 * t ≤ m → r .one ≡ true → y ≡ signed (negative x) (natAbs x + t) → Walked (walkNumber Decoder p x) bytes b at (y ∷ []) (r .at)
+    pub number-grown : (y : ℤ) {u : Here} → 2 * t ≤ m → r .one ≡ true → y ≡ signed (negative x) (natAbs x + t) → u ≡ behindBit b (r .at) z 1 → Walked (walkNumber Decoder p x) bytes b here (y ∷ []) u
     unfolding refined
-    number-grown y h e ey = record {
-      is = asked-known (omega (arith, twice)) ∙ ap (λ a. (refined Decoder p x a ∷ [], tapeOf bytes b (r .at))) (heard-one R e)
-          ∙ ap (λ y. (y ∷ [], tapeOf bytes b (r .at))) (ap (λ k. signed (negative x) (natAbs x + k)) (sym et) ∙ sym ey);
-      near = R .near;
+    number-grown y h e ey eu = record {
+      is = asked-known (omega (arith, twice)) ∙ ap (λ a. (refined Decoder p x a ∷ [], behind Due.more)) (heard-one R e)
+          ∙ (λ i. ((ap (λ k. signed (negative x) (natAbs x + k)) (sym et) ∙ sym ey) i ∷ [], tapeAt bytes b (sym eu i)));
+      near = rw eu (R .near);
     }
 
     module _ {r′ : Answer} (S : ReadBit bytes b (r .at) r′) where
-      asked-sign : m < 2 * t → r .one ≡ true → walkNumber Decoder p x (tapeOf bytes b at) ≡ (begun Decoder p x (heard b (r′ .one) (r′ .at)) ∷ [], tapeOf bytes b (r′ .at))
-      asked-sign h e = asked-new (omega (arith, twice)) ∙ ap (λ o. afterBit Decoder p x o (tapeOf bytes b (r .at))) e ∙ ap (λ q. (begun Decoder p x (q .0) ∷ [], q .1)) (S .read)
+      asked-sign : m < 2 * t → r .one ≡ true → walkNumber Decoder p x (tapeAt bytes b here) ≡ (begun Decoder p x (heard b (r′ .one) (r′ .at)) ∷ [], tapeAt bytes b (behindBit b (r′ .at) z 1))
+      unfolding tapeOf
+      asked-sign h e =
+          asked-new (omega (arith, twice)) ∙ (λ i. afterBit Decoder p x (e i) (tapeOf bytes b (r .at) (open-still R 1 z e i)))
+          ∙ ap (λ q. (begun Decoder p x (q .0) ∷ [], q .1)) (S .read Due.sign z)
 
       -- a 1 whose sign bit isn't there yet
-      pub number-unsigned : (y : ℤ) → y ≡ x → m < 2 * t → r .one ≡ true → b < r′ .at → Walked (walkNumber Decoder p x) bytes b at (y ∷ []) (r′ .at)
+      pub number-unsigned : (y : ℤ) {u : Here} → y ≡ x → m < 2 * t → r .one ≡ true → b < r′ .at → u ≡ behindBit b (r′ .at) z 1 → Walked (walkNumber Decoder p x) bytes b here (y ∷ []) u
       unfolding begun
-      number-unsigned y ey h e g = record {
-        is = asked-sign h e ∙ ap (λ m. (begun Decoder p x (pick m none (some (r′ .one))) ∷ [], tapeOf bytes b (r′ .at))) (lt-ltb b (r′ .at) g) ∙ ap (λ y. (y ∷ [], tapeOf bytes b (r′ .at))) (sym ey);
-        near = S .near;
+      number-unsigned y ey h e g eu = record {
+        is = asked-sign h e ∙ ap (λ m. (begun Decoder p x (pick m none (some (r′ .one))) ∷ [], tapeAt bytes b (behindBit b (r′ .at) z 1))) (lt-ltb b (r′ .at) g) ∙ (λ i. (sym ey i ∷ [], tapeAt bytes b (sym eu i)));
+        near = rw eu (S .near);
       }
 
-      pub number-begun : (y : ℤ) → m < 2 * t → r .one ≡ true → r′ .at ≤ b → y ≡ signed (r′ .one) t → Walked (walkNumber Decoder p x) bytes b at (y ∷ []) (r′ .at)
+      pub number-begun : (y : ℤ) {u : Here} → m < 2 * t → r .one ≡ true → r′ .at ≤ b → y ≡ signed (r′ .one) t → u ≡ behindBit b (r′ .at) z 1 → Walked (walkNumber Decoder p x) bytes b here (y ∷ []) u
       unfolding begun
-      number-begun y h e g ey = record {
-        is = asked-sign h e ∙ ap (λ m. (begun Decoder p x (pick m none (some (r′ .one))) ∷ [], tapeOf bytes b (r′ .at))) (le-ltb b (r′ .at) g)
-            ∙ ap (λ y. (y ∷ [], tapeOf bytes b (r′ .at))) (ap (signed (r′ .one)) (sym et) ∙ sym ey);
-        near = S .near;
+      number-begun y h e g ey eu = record {
+        is = asked-sign h e ∙ ap (λ m. (begun Decoder p x (pick m none (some (r′ .one))) ∷ [], tapeAt bytes b (behindBit b (r′ .at) z 1))) (le-ltb b (r′ .at) g)
+            ∙ (λ i. ((ap (signed (r′ .one)) (sym et) ∙ sym ey) i ∷ [], tapeAt bytes b (sym eu i)));
+        near = rw eu (S .near);
       }

@@ -131,17 +131,17 @@ module _ {R : Reading} {St : Type 0} (W : Running R St) where
     unfolding walkPlanes
     planes-none X h = subst (λ n. Ran (walkPlanes R d L n xs) s (xs, 0) s) (let z : 0 ≡ p = omega arith in z) X
 
-    module _ {ys : List ℤ} {t : St} {o : Bool} (X : Ran (walkPlane R d L p xs) s ys t) (M : Ran (R .missed) t o t) where
+    module _ {ys : List ℤ} {t u : St} {o : Bool} (X : Ran (walkPlane R d L p xs) s ys t) (M : Ran (R .missed) t o u) where
       -- what follows the plane
       abbrev then-plane : Bool → R .M (List ℤ × ℕ)
       then-plane o = elim o as (λ _. R .M (List ℤ × ℕ)) [ true ↦ R .done (ys, suc p) | false ↦ walkPlanes R d L p ys ]
 
-      after : {v : List ℤ × ℕ} {u : St} → Ran (then-plane o) t v u → Ran (walkPlanes R d L (suc p) xs) s v u
+      after : {v : List ℤ × ℕ} {w : St} → Ran (then-plane o) u v w → Ran (walkPlanes R d L (suc p) xs) s v w
       unfolding walkPlanes
       after Y = W .on _ X (W .on _ M Y)
 
-      pub planes-next : {v : List ℤ × ℕ} {u : St} → o ≡ false → Ran (walkPlanes R d L p ys) t v u → Ran (walkPlanes R d L (suc p) xs) s v u
-      planes-next {v} {u} e Y = after (subst (λ o. Ran (then-plane o) t v u) (sym e) Y)
+      pub planes-next : {v : List ℤ × ℕ} {w : St} → o ≡ false → Ran (walkPlanes R d L p ys) u v w → Ran (walkPlanes R d L (suc p) xs) s v w
+      planes-next {v} {w} e Y = after (subst (λ o. Ran (then-plane o) u v w) (sym e) Y)
 
-      pub planes-missed : o ≡ true → Ran (walkPlanes R d L (suc p) xs) s (ys, suc p) t
-      planes-missed e = after (subst (λ o. Ran (then-plane o) t (ys, suc p) t) (sym e) (W .still M (ys, suc p)))
+      pub planes-missed : o ≡ true → Ran (walkPlanes R d L (suc p) xs) s (ys, suc p) u
+      planes-missed e = after (subst (λ o. Ran (then-plane o) u (ys, suc p) u) (sym e) (W .still M (ys, suc p)))

@@ -1,92 +1,36 @@
--- The side of a square, what is said of a thumbnail alone, and when more blocks are expected, by what the code tests.
-use mathlib.Core.Path.{_≡_, refl, ap, _∙_}
-use mathlib.Core.Bool.{Bool, true, false}
-use Prim.Native.Nat.{ℕ, _*_, _/_, _%_, _^_, _<_, _≤_}
-use native.Mathlib.Omega.{arith}
-use native.Mathlib.Nat.{div-eq-of-eq-mul-right, div-add-mod, mul-mod-right}
-use lib.Dec.{leb, eqb}
-use borrow.Author.Tests.{eq-eqb, ne-eqb, eqb-true, eqb-false, le-leb, lt-leb}
-use Rattle.paper.specs.Lists.{pick}
-use Rattle.paper.specs.Sizes.{mostSize}
-use Rattle.paper.specs.Block.{Origin, startOf, payloadBits}
-use mathlib.Core.List.{List, []}
-use Rattle.block.proofs.Editions.{start-most}
+-- How much of the plane that is running is in, and when it is said, by what the code tests.
+use mathlib.Core.Path.{_≡_}
+use Prim.Native.Nat.{ℕ, _*_, _/_, _<_, _≤_}
+use native.Mathlib.Nat.{mul-le-mul}
+use borrow.Author.Tests.{eq-eqb, ne-eqb, lt-ltb, le-ltb}
 use Rattle.pgm.specs.Ascii.{ascii}
-use Rattle.words.specs.Line.{Line, on, _puts_, figure}
-use Rattle.words.proofs.Laws.{Inside, puts-inside}
-use Rattle.verdict.specs.Verdict.{sideOf, ofThumbnail, colon, shotBy, awaits, of255, promiseOf}
+use Rattle.words.specs.Line.{Line, _puts_, figure}
+use Rattle.worth.specs.Worth.{sideOf}
+use Rattle.worth.proofs.Laws.{side-most}
+use Rattle.verdict.specs.Verdict.{shareOf, running}
 
-pub no-side : (k : ℕ) → mostSize < k → 0 ≡ sideOf k
-unfolding sideOf
-no-side k h = rw (lt-leb k mostSize h)
+-- how much of a plane is in: all of it, or the part before a place of the square
+module _ (k side : ℕ) (s : side ≡ sideOf k) where
+  pub square-most : side * side ≤ 65536
+  square-most =
+      let most : side ≤ 256 = rw s (side-most k) in
+      mul-le-mul {n₂ = 256} {m₂ = 256} most most
 
-pub side-is : (k : ℕ) → k ≤ mostSize → 2 ^ k ≡ sideOf k
-unfolding sideOf
-side-is k h = rw (le-leb k mostSize h)
+  pub share-all : (place : ℕ) → side * side ≤ place → 100 ≡ shareOf k place
+  unfolding shareOf
+  share-all place h = rw (← s, le-ltb place (side * side) h)
 
--- said of a thumbnail, and left out of a picture
-module _ (r : ℕ) (text : List ℕ) where
-  pub thumbnail-is : ofThumbnail r text ≡ pick (eqb r 0) [] text
-  unfolding ofThumbnail
-  thumbnail-is = refl
+  pub share-part : (place : ℕ) → place < side * side → 100 * place / (side * side) ≡ shareOf k place
+  unfolding shareOf
+  share-part place h = rw (← s, lt-ltb place (side * side) h)
 
-  pub thumbnail-unsaid : r ≡ 0 → ofThumbnail r text ≡ []
-  unfolding ofThumbnail
-  thumbnail-unsaid e = rw (eq-eqb r 0 e)
+-- it is said where planes are unfinished
+module _ (k p place : ℕ) (line : Line) where
+  pub running-unsaid : p ≡ 0 → running k p place line ≡ line
+  unfolding running
+  running-unsaid e = rw (eq-eqb p 0 e)
 
-  pub thumbnail-said : (r ≡ 0 → ⊥) → ofThumbnail r text ≡ text
-  unfolding ofThumbnail
-  thumbnail-said h = rw (ne-eqb r 0 h)
-
--- arm and mount are named, or left out, and then the title ends
-module _ (r : ℕ) (o : Origin) (line last : Line) where
-  pub origin-unsaid : o .edition ≡ 1 → line puts ascii ": " ≡ last → shotBy r o line ≡ last
-  unfolding shotBy
-  origin-unsaid e h = rw (eq-eqb (o .edition) 1 e) h
-
-  pub origin-said : (o .edition ≡ 1 → ⊥) → (shot : Line) → line puts ascii ", arm " puts figure (o .arm) puts ascii ", mount " puts figure (o .mount) ≡ shot
-      → shot puts pick (eqb r 0) (ascii ": ") (ascii ":\n  ") ≡ last → shotBy r o line ≡ last
-  unfolding shotBy colon
-  origin-said e shot s h = rw (ne-eqb (o .edition) 1 e, s) h
-
--- a block has room for bits, whatever its edition
-pub start-fits : (e start : ℕ) → start ≡ startOf e → start ≤ 20
-start-fits e start s = rw s (start-most e)
-
--- the last block is full exactly if the bits fill all blocks
-module _ (e blocks bits p : ℕ) where
-  pub awaits-none : eqb p 0 ≡ true → false ≡ awaits e blocks bits p
-  unfolding awaits
-  awaits-none u = rw u
-
-  module _ (u : eqb p 0 ≡ false) (start : ℕ) (s : start ≡ startOf e) where
-    abbrev full : ℕ
-    full = payloadBits start
-
-    full-some : 0 < full
-    full-some = omega (arith, start-fits e start s)
-
-    pub awaits-not : (bits / full ≡ blocks → ⊥) → false ≡ awaits e blocks bits p
-    unfolding awaits
-    awaits-not h = rw (u, ← s, ne-eqb bits (full * blocks) (λ filled. h (div-eq-of-eq-mul-right full-some filled)))
-
-    pub awaits-full : bits / full ≡ blocks → eqb (bits % full) 0 ≡ awaits e blocks bits p
-    unfolding awaits
-    awaits-full h = rw (u, ← s) (go (eqb (bits % full) 0) refl)
-      where
-        go : (t : Bool) → eqb (bits % full) 0 ≡ t → eqb (bits % full) 0 ≡ eqb bits (full * blocks)
-        go true t =
-            let filled : bits ≡ full * (bits / full) = omega (arith, div-add-mod bits full, eqb-true (bits % full) 0 t) in
-            rw (t, eq-eqb bits (full * blocks) (filled ∙ ap (λ (b : ℕ). full * b) h))
-        go false t = rw (t, ne-eqb bits (full * blocks) (λ filled. eqb-false (bits % full) 0 t (rw filled (mul-mod-right full blocks))))
-
-pub of255-is : (blocks : ℕ) → of255 blocks ≡ pick (leb blocks 1) (ascii " of 255") (ascii " of 255, if of one shot")
-unfolding of255
-of255-is blocks = refl
-
--- ---- what is said ends within its room, so that it can be lent on
-pub promise-inside : (bytes label : List ℕ) (k L r p blocks : ℕ) → Inside (promiseOf label k L r p blocks (on bytes 0))
-unfolding promiseOf
-promise-inside bytes label k L r p blocks =
-    let h : Inside (on bytes 0) = omega arith in
-    puts-inside _ _ (puts-inside _ _ (puts-inside _ _ (puts-inside _ _ (puts-inside _ _ (puts-inside _ _ (puts-inside _ _ (puts-inside _ _ (puts-inside _ _ (puts-inside (on bytes 0) _ h)))))))))
+  pub running-said : (p ≡ 0 → ⊥) → (share : ℕ) → share ≡ shareOf k place → (part last : Line) → line puts ascii " and " puts figure share ≡ part
+      → part puts ascii "% of the next" ≡ last → running k p place line ≡ last
+  unfolding running
+  running-said e share s part last t h = rw (ne-eqb p 0 e, ← s, t) h

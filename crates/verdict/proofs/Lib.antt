@@ -1,5 +1,4 @@
--- Laws of what decode says, and of the promise in the picture's header.
+-- Laws of what decode says, and that all of it is said.
 pub mod Laws
-pub mod Comment
 pub mod Told
 pub mod Room

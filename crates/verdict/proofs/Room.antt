@@ -1,20 +1,24 @@
 -- In the room that decode has for it, nothing that is said is dropped: the lines are one text, all of it there.
 use mathlib.Core.Path.{_≡_, sym, ap, _∙_}
-use mathlib.Core.Bool.{Bool}
+use mathlib.Core.Bool.{Bool, true, false}
 use mathlib.Core.List.{List, [], _∷_, _++_}
-use Prim.Native.Nat.{ℕ, _+_, _-_, _≤_}
+use Prim.Native.Nat.{ℕ, zero, suc, _+_, _-_, _/_, _%_, _^_, _<_, _≤_}
 use native.Mathlib.Omega.{arith}
-use lib.Dec.{leb, eqb}
-use lib.ListN.{length}
+use native.Mathlib.Nat.{pow-suc}
+use lib.Dec.{leb, ltb, eqb}
+use lib.ListN.{length, length-append}
+use borrow.Author.Tests.{lt-ltb}
 use Rattle.paper.specs.Lists.{pick}
 use Rattle.paper.specs.Sizes.{greyLimit}
 use Rattle.paper.specs.Block.{Origin, unnamed}
-use Rattle.pgm.specs.Ascii.{ascii}
+use Rattle.pgm.specs.Ascii.{ascii, decimal}
 use Rattle.words.specs.Line.{Line, on, _puts_, figure}
 use Rattle.words.proofs.Laws.{either, putsAll, oneText, lengths, one-text-length, puts-all, puts-more, puts-either, lengths-more}
 use Rattle.words.proofs.Decimal.{decimal-length}
-use Rattle.verdict.specs.Verdict.{word, sideOf, ofThumbnail, titled, colon, shotBy, awaits, plural, expected, counted, oneShot, kind, worth, planes, reportOf}
-use Rattle.verdict.proofs.Comment.{AtMost, word-length, thumbnail-length}
+use Rattle.worth.specs.Worth.{word, sideOf, ofThumbnail, oneShot, kind, worth}
+use Rattle.title.specs.Title.{titled, colon, shotBy, awaits, plural, expected, counted}
+use Rattle.verdict.specs.Verdict.{shareOf, running, planes, reportOf}
+use Rattle.worth.proofs.Laws.{AtMost, word-length, thumbnail-length, side-most}
 
 -- ---- the texts of each part
 titleTexts : List ℕ → ℕ → ℕ → ℕ → List (List ℕ)
@@ -36,15 +40,21 @@ worthTexts L r p blocks =
     (pick (eqb (greyLimit (L - r) p) 255) (ascii "  any grey may be wrong: too little is left to promise more\n" ∷ [])
     (ascii "  no grey is off by more than " ∷ figure (greyLimit (L - r) p) ∷ ascii " of 255" ∷ oneShot blocks ∷ []))
 
-planeTexts : ℕ → ℕ → ℕ → ℕ → List (List ℕ)
-planeTexts L n p bits = ascii "  planes finished: " ∷ figure (n - p) ∷ ascii " of " ∷ figure n ∷ ascii ", levels: " ∷ figure L ∷ ascii ", bits: " ∷ figure bits ∷ ascii "\n" ∷ []
+runningTexts : ℕ → ℕ → ℕ → List (List ℕ)
+runningTexts k p place = pick (eqb p 0) [] (ascii " and " ∷ figure (shareOf k place) ∷ ascii "% of the next" ∷ [])
+
+depthTexts : ℕ → ℕ → List (List ℕ)
+depthTexts L bits = ascii ", levels: " ∷ figure L ∷ ascii ", bits: " ∷ figure bits ∷ ascii "\n" ∷ []
+
+planeTexts : ℕ → ℕ → ℕ → ℕ → ℕ → ℕ → List (List ℕ)
+planeTexts k L n p place bits = ascii "  planes finished: " ∷ figure (n - p) ∷ ascii " of " ∷ figure n ∷ (runningTexts k p place ++ depthTexts L bits)
 
 -- behind the title and the origin
-restTexts : ℕ → ℕ → ℕ → ℕ → ℕ → ℕ → ℕ → List ℕ → List (List ℕ)
-restTexts L r e n blocks bits p ended = countTexts e blocks bits p ++ (worthTexts L r p blocks ++ (planeTexts L n p bits ++ (ended ∷ [])))
+restTexts : ℕ → ℕ → ℕ → ℕ → ℕ → ℕ → ℕ → ℕ → ℕ → List ℕ → List (List ℕ)
+restTexts k L r e n blocks bits p place ended = countTexts e blocks bits p ++ (worthTexts L r p blocks ++ (planeTexts k L n p place bits ++ (ended ∷ [])))
 
-pub reportTexts : List ℕ → ℕ → ℕ → ℕ → Origin → ℕ → ℕ → ℕ → ℕ → List ℕ → List (List ℕ)
-reportTexts label k L r o n blocks bits p ended = titleTexts label k r p ++ (originTexts r o ++ restTexts L r (o .edition) n blocks bits p ended)
+pub reportTexts : List ℕ → ℕ → ℕ → ℕ → Origin → ℕ → ℕ → ℕ → ℕ → ℕ → List ℕ → List (List ℕ)
+reportTexts label k L r o n blocks bits p place ended = titleTexts label k r p ++ (originTexts r o ++ restTexts k L r (o .edition) n blocks bits p place ended)
 
 -- ---- each part is its texts
 worth-texts : (L r p blocks : ℕ) (line : Line) → worth L r p blocks line ≡ putsAll line (worthTexts L r p blocks)
@@ -56,21 +66,35 @@ origin-texts : (r : ℕ) (o : Origin) (line : Line) → shotBy r o line ≡ puts
 unfolding shotBy originTexts putsAll
 origin-texts r o line = puts-either (unnamed (o .edition)) _ _ line
 
-rest-texts : (L r e n blocks bits p : ℕ) (ended : List ℕ) (line : Line)
-    → planes L n p bits (worth L r p blocks (counted e blocks bits p line)) puts ended ≡ putsAll line (restTexts L r e n blocks bits p ended)
-unfolding counted planes restTexts countTexts planeTexts putsAll
-rest-texts L r e n blocks bits p ended line =
-    let said = counted e blocks bits p line in
-    ap (λ (line : Line). planes L n p bits line puts ended) (worth-texts L r p blocks said)
-    ∙ sym (puts-more (worthTexts L r p blocks) (planeTexts L n p bits ++ (ended ∷ [])) said)
+running-texts : (k p place : ℕ) (line : Line) → running k p place line ≡ putsAll line (runningTexts k p place)
+unfolding running runningTexts putsAll
+running-texts k p place line = puts-either (eqb p 0) [] _ line
 
-report-texts : (label : List ℕ) (k L r : ℕ) (o : Origin) (n blocks bits p : ℕ) (ended : List ℕ) (line : Line) → reportOf label k L r o n blocks bits p ended line ≡ putsAll line (reportTexts label k L r o n blocks bits p ended)
+planes-texts : (k L n p place bits : ℕ) (line : Line) → planes k L n p place bits line ≡ putsAll line (planeTexts k L n p place bits)
+unfolding planes planeTexts depthTexts putsAll
+planes-texts k L n p place bits line =
+    let finished = line puts ascii "  planes finished: " puts figure (n - p) puts ascii " of " puts figure n in
+    ap (λ (line : Line). line puts ascii ", levels: " puts figure L puts ascii ", bits: " puts figure bits puts ascii "\n") (running-texts k p place finished)
+    ∙ sym (puts-more (runningTexts k p place) (depthTexts L bits) finished)
+
+rest-texts : (k L r e n blocks bits p place : ℕ) (ended : List ℕ) (line : Line)
+    → planes k L n p place bits (worth L r p blocks (counted e blocks bits p line)) puts ended ≡ putsAll line (restTexts k L r e n blocks bits p place ended)
+unfolding counted restTexts countTexts putsAll
+rest-texts k L r e n blocks bits p place ended line =
+    let said = counted e blocks bits p line in
+    let planes-too = planeTexts k L n p place bits in
+    ap (λ (line : Line). line puts ended) (planes-texts k L n p place bits (worth L r p blocks said))
+    ∙ (sym (puts-more planes-too (ended ∷ []) (worth L r p blocks said))
+    ∙ (ap (λ (line : Line). putsAll line (planes-too ++ (ended ∷ []))) (worth-texts L r p blocks said)
+    ∙ sym (puts-more (worthTexts L r p blocks) (planes-too ++ (ended ∷ [])) said)))
+
+report-texts : (label : List ℕ) (k L r : ℕ) (o : Origin) (n blocks bits p place : ℕ) (ended : List ℕ) (line : Line) → reportOf label k L r o n blocks bits p place ended line ≡ putsAll line (reportTexts label k L r o n blocks bits p place ended)
 unfolding reportOf titled reportTexts titleTexts putsAll
-report-texts label k L r o n blocks bits p ended line =
+report-texts label k L r o n blocks bits p place ended line =
     let title = titled label k r p line in
-    rest-texts L r (o .edition) n blocks bits p ended (shotBy r o title)
-    ∙ (ap (λ (line : Line). putsAll line (restTexts L r (o .edition) n blocks bits p ended)) (origin-texts r o title)
-    ∙ sym (puts-more (originTexts r o) (restTexts L r (o .edition) n blocks bits p ended) title))
+    rest-texts k L r (o .edition) n blocks bits p place ended (shotBy r o title)
+    ∙ (ap (λ (line : Line). putsAll line (restTexts k L r (o .edition) n blocks bits p place ended)) (origin-texts r o title)
+    ∙ sym (puts-more (originTexts r o) (restTexts k L r (o .edition) n blocks bits p place ended) title))
 
 -- ---- and none is long
 plural-length : (blocks : ℕ) → length (plural blocks) ≤ 9
@@ -108,26 +132,51 @@ origin-length r o =
     either (λ (texts : List (List ℕ)). lengths texts ≤ 58) (unnamed (o .edition)) _ _ (omega arith)
     (omega (arith, decimal-length 20 (o .arm), decimal-length 20 (o .mount), colon-length r))
 
-title-length : (label : List ℕ) (k r p : ℕ) → lengths (titleTexts label k r p) ≤ length label + 68
+-- a number below 10 ^ (d + 1) has at most d + 1 digits
+few-digits : (most d n : ℕ) → n < 10 ^ suc d → length (decimal most n) ≤ suc d
+unfolding decimal
+few-digits zero d n h = omega arith
+few-digits (suc most) zero n h = rw (lt-ltb n 10 (omega arith)) (omega arith)
+few-digits (suc most) (suc d) n h = digits (ltb n 10) n (decimal most (n / 10)) (few-digits most d (n / 10) (omega (arith, pow-suc 10 (suc d))))
+  where
+    digits : (b : Bool) (n : ℕ) (front : List ℕ) → length front ≤ suc d → length (pick b ((48 + n) ∷ []) (front ++ ((48 + n % 10) ∷ []))) ≤ suc (suc d)
+    digits true n front h = omega arith
+    digits false n front h = omega (arith, length-append front ((48 + n % 10) ∷ []))
+
+-- a side has three digits
+side-length : (k : ℕ) → length (figure (sideOf k)) ≤ 3
+side-length k = few-digits 20 2 (sideOf k) (omega (arith, side-most k))
+
+title-length : (label : List ℕ) (k r p : ℕ) → lengths (titleTexts label k r p) ≤ length label + 34
 unfolding titleTexts lengths
 title-length label k r p =
-    omega (arith, word-length p, thumbnail-length r (ascii ", thumbnail"), decimal-length 20 (sideOf (k - r)), thumbnail-length r (ascii " of "), thumbnail-length r (figure (sideOf k)), decimal-length 20 (sideOf k))
+    omega (arith, word-length p, thumbnail-length r (ascii ", thumbnail"), side-length (k - r), thumbnail-length r (ascii " of "), thumbnail-length r (figure (sideOf k)), side-length k)
 
-rest-length : (L r e n blocks bits p : ℕ) (ended : List ℕ) → lengths (restTexts L r e n blocks bits p ended) ≤ length ended + 257
-unfolding restTexts countTexts planeTexts lengths
-rest-length L r e n blocks bits p ended =
-    omega (arith, lengths-more (worthTexts L r p blocks) (planeTexts L n p bits ++ (ended ∷ [])), decimal-length 20 blocks, plural-length blocks, expected-length (awaits e blocks bits p), worth-length L r p blocks, decimal-length 20 (n - p), decimal-length 20 n, decimal-length 20 L, decimal-length 20 bits)
+running-length : (k p place : ℕ) → lengths (runningTexts k p place) ≤ 38
+unfolding runningTexts lengths
+running-length k p place = either (λ (texts : List (List ℕ)). lengths texts ≤ 38) (eqb p 0) _ _ (omega arith) (omega (arith, decimal-length 20 (shareOf k place)))
 
-texts-length : (label : List ℕ) (k L r : ℕ) (o : Origin) (n blocks bits p : ℕ) (ended : List ℕ) → lengths (reportTexts label k L r o n blocks bits p ended) ≤ length label + length ended + 383
+planes-length : (k L n p place bits : ℕ) → lengths (planeTexts k L n p place bits) ≤ 160
+unfolding planeTexts depthTexts lengths
+planes-length k L n p place bits =
+    omega (arith, decimal-length 20 (n - p), decimal-length 20 n, lengths-more (runningTexts k p place) (depthTexts L bits), running-length k p place, decimal-length 20 L, decimal-length 20 bits)
+
+rest-length : (k L r e n blocks bits p place : ℕ) (ended : List ℕ) → lengths (restTexts k L r e n blocks bits p place ended) ≤ length ended + 295
+unfolding restTexts countTexts lengths
+rest-length k L r e n blocks bits p place ended =
+    let planes-too = planeTexts k L n p place bits in
+    omega (arith, lengths-more (worthTexts L r p blocks) (planes-too ++ (ended ∷ [])), lengths-more planes-too (ended ∷ []), decimal-length 20 blocks, plural-length blocks, expected-length (awaits e blocks bits p), worth-length L r p blocks, planes-length k L n p place bits)
+
+texts-length : (label : List ℕ) (k L r : ℕ) (o : Origin) (n blocks bits p place : ℕ) (ended : List ℕ) → lengths (reportTexts label k L r o n blocks bits p place ended) ≤ length label + length ended + 387
 unfolding reportTexts
-texts-length label k L r o n blocks bits p ended =
-    let rest = restTexts L r (o .edition) n blocks bits p ended in
-    omega (arith, lengths-more (titleTexts label k r p) (originTexts r o ++ rest), lengths-more (originTexts r o) rest, title-length label k r p, origin-length r o, rest-length L r (o .edition) n blocks bits p ended)
+texts-length label k L r o n blocks bits p place ended =
+    let rest = restTexts k L r (o .edition) n blocks bits p place ended in
+    omega (arith, lengths-more (titleTexts label k r p) (originTexts r o ++ rest), lengths-more (originTexts r o) rest, title-length label k r p, origin-length r o, rest-length k L r (o .edition) n blocks bits p place ended)
 
 -- in room of 864 bytes
-pub report-there : (bytes label : List ℕ) (k L r : ℕ) (o : Origin) (n blocks bits p : ℕ) (ended : List ℕ) → 864 ≤ length bytes → length label ≤ 8 → length ended ≤ 464
-    → reportOf label k L r o n blocks bits p ended (on bytes 0) ≡ on bytes 0 puts oneText (reportTexts label k L r o n blocks bits p ended)
-report-there bytes label k L r o n blocks bits p ended room short few =
-    let texts = reportTexts label k L r o n blocks bits p ended in
-    let long : 0 + length (oneText texts) ≤ length bytes = omega (arith, one-text-length texts, texts-length label k L r o n blocks bits p ended) in
-    report-texts label k L r o n blocks bits p ended (on bytes 0) ∙ puts-all texts bytes 0 long
+pub report-there : (bytes label : List ℕ) (k L r : ℕ) (o : Origin) (n blocks bits p place : ℕ) (ended : List ℕ) → 864 ≤ length bytes → length label ≤ 8 → length ended ≤ 464
+    → reportOf label k L r o n blocks bits p place ended (on bytes 0) ≡ on bytes 0 puts oneText (reportTexts label k L r o n blocks bits p place ended)
+report-there bytes label k L r o n blocks bits p place ended room short few =
+    let texts = reportTexts label k L r o n blocks bits p place ended in
+    let long : 0 + length (oneText texts) ≤ length bytes = omega (arith, one-text-length texts, texts-length label k L r o n blocks bits p place ended) in
+    report-texts label k L r o n blocks bits p place ended (on bytes 0) ∙ puts-all texts bytes 0 long

@@ -1,19 +1,19 @@
 -- How many bits a coding has: at most n (4 S² - 1) / 3 + S².
-use mathlib.Core.Path.{_≡_, refl, sym, ap, _∙_, subst}
+use mathlib.Core.Path.{_≡_, refl, sym, ap, subst}
 use mathlib.Core.Bool.{Bool, true, false}
 use mathlib.Core.Option.{some}
 use mathlib.Core.List.{List, [], _∷_, _++_, append-nil}
 use Prim.Native.Nat.{ℕ, zero, suc, _+_, _*_, _-_, _/_, _^_, _≤_, _<_}
-use native.Mathlib.Nat.{pow-suc, two-pow-succ, suc-mul, mul-left-comm}
+use native.Mathlib.Nat.{pow-suc, pow-le-pow-right, two-pow-succ, suc-mul, mul-left-comm, add-zero}
 use native.Mathlib.Omega.{arith}
 use lib.Dec.{leb}
 use borrow.Author.Tests.{leb-true, le-leb}
 use lib.IntN.{ℤ, natAbs}
-use lib.ListN.{length, take, drop, length-append, take-append-drop}
+use lib.ListN.{length, take, drop, length-drop, length-append, take-append-drop}
 use Rattle.paper.specs.Sizes.{mostBits}
 use Rattle.paper.specs.Walk.{reaches, isOne, Coder, testSet, walkNumber, walkNumbers, walkSet, walkRest, walkPlane, walkPlanes, codeOf, planeCount, depth, _next_}
 use Rattle.list_laws.specs.Parts.{fourth}
-use Rattle.walk_laws.specs.Asks.{Closes, square-closes, test-known, test-asks, number-known, number-asks, afterBit, opened}
+use Rattle.walk_laws.specs.Asks.{square-sized, test-known, test-asks, number-known, number-asks, afterBit, opened}
 use Rattle.walk_laws.specs.Planes.{planesCode, code-step}
 
 -- ---- one plane
@@ -92,6 +92,26 @@ unfolding walkSet setTests
 cost-set p zero xs = cost-tested p xs _ 0 (cost-numbers p xs)
 cost-set p (suc d) xs = cost-tested p xs _ _ (cost-three p d xs {c = walkSet Coder p d} (cost-set p d) (cost-set p d (fourth (4 ^ suc d) xs)))
 
+-- the levels end where the numbers do
+abbrev Closes : ℕ → ℕ → List ℤ → Type 0
+Closes d zero xs = xs ≡ []
+Closes d (suc left) xs = Closes (suc d) left (fourth (4 ^ suc d) xs)
+
+rest-closes : (d left : ℕ) (xs : List ℤ) → length xs + 4 ^ suc d ≡ 4 ^ (suc d + left) → Closes d left xs
+rest-closes d zero [] h = refl
+rest-closes d zero (x ∷ xs) h = absurd (omega (arith, ap (λ k. 4 ^ k) (add-zero (suc d))))
+rest-closes d (suc left) xs h =
+    let q = 4 ^ suc d in
+    let e : suc d + suc left ≡ suc (suc d) + left = omega arith in
+    let b : 4 ^ suc (suc d) ≤ 4 ^ (suc (suc d) + left) = pow-le-pow-right {n = 4} (omega arith) (omega arith) in
+    rest-closes (suc d) left (fourth q xs)
+    (omega (arith, h, pow-suc 4 (suc d), b, ap (λ k. 4 ^ k) e, length-drop q (drop q (drop q xs)), length-drop q (drop q xs), length-drop q xs))
+
+-- a plane's levels end where its 4 ^ (suc d + L) numbers do
+plane-closes : (d L : ℕ) (xs : List ℤ) → length xs ≡ 4 ^ (suc d + L) → Closes d L (drop (4 ^ suc d) xs)
+plane-closes d L xs s =
+    rest-closes d L (drop (4 ^ suc d) xs) (omega (arith, length-drop (4 ^ suc d) xs, pow-le-pow-right {n = 4} (omega arith) {i = suc d} {j = suc d + L} (omega arith)))
+
 -- the rest may end in numbers that no level covers, so it is held to its numbers only where the levels end with them
 cost-rest : (p d left : ℕ) (xs : List ℤ) → Closes d left xs → Cost p xs (walkRest Coder p d left xs) (restTests d left)
 unfolding walkRest restTests
@@ -153,15 +173,15 @@ signs-most : (n : ℕ) (xs : List ℤ) → signBits n xs ≤ length xs
 signs-most n [] = omega (arith, signs-none n)
 signs-most n (x ∷ xs) = omega (arith, signs-cons n x xs, signs-one n x, signs-most n xs)
 
-module _ (d L : ℕ) (xs : List ℤ) (h : Closes d L (drop (4 ^ suc d) xs)) where
+module _ (d L : ℕ) (xs : List ℤ) (h : length xs ≡ 4 ^ (suc d + L)) where
   cost-planes : (n : ℕ) → length (planesCode d L xs n) ≤ n * (setTests d + restTests d L + length xs) + signBits n xs
   unfolding signBits
   cost-planes zero = unfold walkPlanes in (omega arith)
   cost-planes (suc p) =
-      omega (arith, cost-plane p d L xs h .most, cost-planes p, ap length (code-step d L xs h p), length-append ((walkPlane Coder d L p xs) .1) (planesCode d L xs p), suc-mul p (setTests d + restTests d L + length xs))
+      omega (arith, cost-plane p d L xs (plane-closes d L xs h) .most, cost-planes p, ap length (code-step d L xs h p), length-append ((walkPlane Coder d L p xs) .1) (planesCode d L xs p), suc-mul p (setTests d + restTests d L + length xs))
 
-  pub planes-bound : (n : ℕ) → length xs ≡ 4 ^ (suc d + L) → length (planesCode d L xs n) ≤ n * (4 * length xs - 1) / 3 + length xs
-  planes-bound n s =
+  pub planes-bound : (n : ℕ) → length (planesCode d L xs n) ≤ n * (4 * length xs - 1) / 3 + length xs
+  planes-bound n =
       let t = setTests d + restTests d L in
       let e : 3 * (t + length xs) ≡ 4 * length xs - 1 = omega (arith, plane-tests d L) in
       let f : n * (3 * (t + length xs)) ≡ 3 * (n * (t + length xs)) = mul-left-comm n 3 (t + length xs) in
@@ -171,6 +191,4 @@ module _ (d L : ℕ) (xs : List ℤ) (h : Closes d L (drop (4 ^ suc d) xs)) wher
 pub coding-bound : (k L : ℕ) (xs : List ℤ) → L < k → length xs ≡ 4 ^ k → length (codeOf k L xs) ≤ mostBits k (planeCount xs)
 unfolding codeOf mostBits
 coding-bound k L xs levels square =
-    let d = depth k L in
-    let e : suc d + L ≡ k = omega arith in
-    rw square at (planes-bound d L xs (square-closes k L xs levels square) (planeCount xs) (square ∙ ap (λ j. 4 ^ j) (sym e)))
+    rw square at (planes-bound (depth k L) L xs (square-sized k L xs levels square) (planeCount xs))

@@ -7,21 +7,21 @@ use native.Mathlib.Nat.{two-pow-succ}
 use native.Mathlib.Omega.{arith}
 use lib.Pow.{pow-mono}
 use lib.Dec.{leb, ltb}
-use borrow.Author.Tests.{leb-false, ltb-true, ltb-false}
+use borrow.Author.Tests.{leb-false, lt-ltb, ltb-true, ltb-false}
 use lib.IntN.{ℤ, pos, negℤ, natAbs, _-ℤ_}
 use lib.ListN.{length, take, drop, getD, replicate, length-append, take-append-drop}
 use lib.Seq.{take-all, take-add, drop-cons}
 use Rattle.paper.specs.Sizes.{numbersIn, mostPlanes}
-use Rattle.paper.specs.Lists.{at}
-use Rattle.paper.specs.Walk.{negative, signed, largest, bitsNeeded, planeCount, Decoder, Tape, walkPlanes, depth, codeOf, decodeOf, Settled}
+use Rattle.paper.specs.Lists.{at, pick}
+use Rattle.paper.specs.Walk.{negative, signed, largest, bitsNeeded, planeCount, Decoder, Tape, walkPlanes, depth, codeOf, decodeOf, Settled, unreadAt}
 use Rattle.sizes.proofs.Numbers.{largest-in}
 use Rattle.integer_laws.specs.Difference.{_⊖_, split, pos-⊖}
 use Rattle.integer_laws.specs.Order.{ints, zarith}
 use Rattle.walk_laws.specs.Cleared.{high, cleared, natAbs-cleared, high-le, lt-high, high-mono, negative-signed, signed-zero, signed-self, cleared-none, cleared-small}
-use Rattle.walk_laws.specs.Asks.{Closes, square-closes}
+use Rattle.walk_laws.specs.Asks.{square-sized}
 use Rattle.walk_laws.specs.Together.{tape}
 use Rattle.walk_laws.specs.Read.{decoded-as}
-use Rattle.walk_laws.specs.Planes.{unsettled, unsettled-most, settled-at, Stopped, Further, run, run-whole, run-part}
+use Rattle.walk_laws.specs.Planes.{unsettled, unsettled-is, settled-at, Stopped, Further, run, run-whole, run-part}
 
 -- ---- one number
 -- z, from which p planes are unfinished, against the true number x
@@ -41,6 +41,19 @@ cleared-truthful q p x h = record {
     go : (m : ℕ) → high q (natAbs x) ≡ m → (signed (negative x) (high q (natAbs x)) ≡ pos 0 → ⊥) → negative (signed (negative x) (high q (natAbs x))) ≡ negative x
     go zero e k = absurd (k (ap (signed (negative x)) e ∙ signed-zero (negative x)))
     go (suc m) e k = negative-signed (negative x) (high q (natAbs x)) (omega arith)
+
+-- at most p bits of a number are unread, and p - 1 before the place
+unread-before : (p z i : ℕ) → i < z → unreadAt p z i ≡ p - 1
+unfolding unreadAt
+unread-before p z i h = ap (λ b. pick b (p - 1) p) (lt-ltb i z h)
+
+unread-most : (p z i : ℕ) → unreadAt p z i ≤ p
+unfolding unreadAt
+unread-most p z i = go (ltb i z)
+  where
+    go : (b : Bool) → pick b (p - 1) p ≤ p
+    go true = omega arith
+    go false = omega arith
 
 -- how far a number with cleared bits is from the truth
 turned-gap : (x y : ℤ) → natAbs (negℤ x -ℤ negℤ y) ≡ natAbs (x -ℤ y)
@@ -99,37 +112,37 @@ module _ (k L : ℕ) (xs : List ℤ) (levels : L < k) (square : length xs ≡ 4 
   abbrev code : List Bool
   code = codeOf k L xs
 
-  abbrev closed : Closes d L (drop (4 ^ suc d) xs)
-  closed = square-closes k L xs levels square
+  abbrev sized : length xs ≡ 4 ^ (suc d + L)
+  sized = square-sized k L xs levels square
 
   pub start-cleared : map (cleared n) xs ≡ replicate (4 ^ k) (pos 0)
   start-cleared = all-cleared n xs (count-fits xs numbers-in) ∙ ap (λ j. replicate j (pos 0)) square
 
-  decoded : (l : List Bool) {v : List ℤ × ℕ} {t : Tape} → run d L xs closed n l ≡ (v, t)
-      → decodeOf k L n l ≡ record { numbers = v .0; unfinished = v .1; read = length l - length (t .left) }
-  decoded l e = decoded-as k L n l (ap (λ z. walkPlanes Decoder d L n z (tape l false)) (sym start-cleared) ∙ e)
+  decoded : (l : List Bool) {v : List ℤ × ℕ} {t : Tape} → run d L xs sized n l ≡ (v, t)
+      → decodeOf k L n l ≡ record { numbers = v .0; unfinished = v .1; read = length l - length (t .left); place = t .place }
+  decoded l e = decoded-as k L n l (ap (λ z. walkPlanes Decoder d L n z (tape l false 0)) (sym start-cleared) ∙ e)
 
   -- The whole coding, whatever stands behind it, decodes to the numbers, and no bit behind it is read.
-  pub coding-decoded : (r : List Bool) → decodeOf k L n (code ++ r) ≡ record { numbers = xs; unfinished = 0; read = length code }
+  pub coding-decoded : (r : List Bool) → decodeOf k L n (code ++ r) ≡ record { numbers = xs; unfinished = 0; read = length code; place = 0 }
   unfolding codeOf
   coding-decoded r =
-      decoded (code ++ r) (run-whole d L xs closed n r)
-      ∙ (λ i. record { numbers = none-cleared xs i; unfinished = 0; read = (let e : length (code ++ r) - length r ≡ length code = omega (arith, length-append code r) in e) i })
+      decoded (code ++ r) (run-whole d L xs sized n r)
+      ∙ (λ i. record { numbers = none-cleared xs i; unfinished = 0; read = (let e : length (code ++ r) - length r ≡ length code = omega (arith, length-append code r) in e) i; place = 0 })
 
-  pub all-bits : (b : ℕ) → length code ≤ b → decodedFirst k L xs b ≡ record { numbers = xs; unfinished = 0; read = length code }
+  pub all-bits : (b : ℕ) → length code ≤ b → decodedFirst k L xs b ≡ record { numbers = xs; unfinished = 0; read = length code; place = 0 }
   all-bits b h = ap (decodeOf k L n) (take-all b code h ∙ sym (append-nil code)) ∙ coding-decoded []
 
   -- the first b bits and the first c, neither all of them
-  some-bits : (b c : ℕ) → b ≤ c → c < length code → Further xs n (run d L xs closed n (take b code)) (run d L xs closed n (take c code))
+  some-bits : (b c : ℕ) → b ≤ c → c < length code → Further xs n (run d L xs sized n (take b code)) (run d L xs sized n (take c code))
   unfolding codeOf
   some-bits b c h g =
       let k = take (c - b) (drop b code) in
       let join : take b code ++ k ≡ take c code = sym (take-add b (c - b) code) ∙ ap (λ j. take j code) (let e : b + (c - b) ≡ c = omega arith in e) in
       let e : (take b code ++ k) ++ getD code c false ∷ drop (suc c) code ≡ code = (λ i. join i ++ sym (drop-cons code c false g) i) ∙ take-append-drop c code in
-      rw join at (run-part d L xs closed n (take b code) k (getD code c false) (drop (suc c) code) e)
+      rw join at (run-part d L xs sized n (take b code) k (getD code c false) (drop (suc c) code) e)
 
   -- number i, where the decoder stops in a plane
-  stopped-at : (b i : ℕ) {p j : ℕ} → Stopped xs n p j (run d L xs closed n (take b code))
+  stopped-at : (b i : ℕ) {p j : ℕ} → Stopped xs n p j (run d L xs sized n (take b code))
       → at ((decodedFirst k L xs b) .numbers) i ≡ cleared (unsettled p j i) (at xs i)
   stopped-at b i {p = p} {j = j} S = ap (λ (s : Settled). at (s .numbers) i) (decoded (take b code) (S .is)) ∙ settled-at p j xs i
 
@@ -140,33 +153,35 @@ module _ (k L : ℕ) (xs : List ℤ) (levels : L < k) (square : length xs ≡ 4 
       go true e = g (ltb-true b (length code) e)
       go false e = f (ltb-false b (length code) e)
 
-  -- Of any first part: no magnitude is above the true one, none short by more than 2 ^ p - 1, none but 0 has the wrong sign.
+  -- the low bits of number i that the first b bits leave unread
+  abbrev pub unreadFirst : ℕ → ℕ → ℕ
+  unreadFirst b i = unreadAt ((decodedFirst k L xs b) .unfinished) ((decodedFirst k L xs b) .place) i
+
+  -- Of any first part: number i is the true one with its unread bits cleared.
+  pub decoded-at : (b i : ℕ) → at ((decodedFirst k L xs b) .numbers) i ≡ cleared (unreadFirst b i) (at xs i)
+  decoded-at b i = split-bits b _ every some
+    where
+      none : (u : ℕ) → u ≤ 0 → at xs i ≡ cleared u (at xs i)
+      none u h = sym (cleared-none (at xs i)) ∙ ap (λ u. cleared u (at xs i)) (let e : 0 ≡ u = omega arith in e)
+
+      every : length code ≤ b → at ((decodedFirst k L xs b) .numbers) i ≡ cleared (unreadFirst b i) (at xs i)
+      every h = rw (all-bits b h) (none (unreadAt 0 0 i) (unread-most 0 0 i))
+
+      some : b < length code → at ((decodedFirst k L xs b) .numbers) i ≡ cleared (unreadFirst b i) (at xs i)
+      some g =
+          let S = some-bits b b (omega arith) g in
+          stopped-at b i (S .fewer) ∙ ap (λ u. cleared u (at xs i)) (unsettled-is (S .plane) (S .count) i ∙ ap (λ (s : Settled). unreadAt (s .unfinished) (s .place) i) (sym (decoded (take b code) (S .fewer .is))))
+
+  -- So where no more than q of its bits are unread no magnitude is above the true one, none short by more than 2 ^ q - 1, none but 0 has the wrong sign.
+  unread-truthful : (b i q : ℕ) → unreadFirst b i ≤ q → Truthful q (at xs i) (at ((decodedFirst k L xs b) .numbers) i)
+  unread-truthful b i q h = rw (decoded-at b i) (cleared-truthful (unreadFirst b i) q (at xs i) h)
+
+  -- That is so of every number with p, and with p - 1 of those before the place.
   pub decoded-truthful : (b i : ℕ) → Truthful ((decodedFirst k L xs b) .unfinished) (at xs i) (at ((decodedFirst k L xs b) .numbers) i)
-  decoded-truthful b i = split-bits b _ every some
-    where
-      every : length code ≤ b → Truthful ((decodedFirst k L xs b) .unfinished) (at xs i) (at ((decodedFirst k L xs b) .numbers) i)
-      every h = rw (all-bits b h) (record { notAbove = omega arith; notShort = omega arith; rightSign = λ _. refl })
+  decoded-truthful b i = unread-truthful b i _ (unread-most _ _ i)
 
-      some : b < length code → Truthful ((decodedFirst k L xs b) .unfinished) (at xs i) (at ((decodedFirst k L xs b) .numbers) i)
-      some g =
-          let S = some-bits b b (omega arith) g in
-          rw (stopped-at b i (S .fewer), decoded (take b code) (S .fewer .is)) (cleared-truthful (unsettled (S .plane) (S .count) i) (suc (S .plane)) (at xs i) (unsettled-most (S .plane) (S .count) i))
-
-  -- So no number is further than 2 ^ p - 1 from the truth.
-  pub decoded-near : (b i : ℕ) → natAbs (at xs i -ℤ at ((decodedFirst k L xs b) .numbers) i) ≤ 2 ^ (decodedFirst k L xs b) .unfinished - 1
-  decoded-near b i = split-bits b _ every some
-    where
-      x : ℤ
-      x = at xs i
-
-      every : length code ≤ b → natAbs (x -ℤ at ((decodedFirst k L xs b) .numbers) i) ≤ 2 ^ (decodedFirst k L xs b) .unfinished - 1
-      every h = rw (all-bits b h) (omega (arith, no-gap x))
-
-      some : b < length code → natAbs (x -ℤ at ((decodedFirst k L xs b) .numbers) i) ≤ 2 ^ (decodedFirst k L xs b) .unfinished - 1
-      some g =
-          let S = some-bits b b (omega arith) g in
-          let q = unsettled (S .plane) (S .count) i in
-          rw (stopped-at b i (S .fewer), decoded (take b code) (S .fewer .is)) (omega (arith, cleared-gap q x, lt-high q (natAbs x), pow-mono (unsettled-most (S .plane) (S .count) i)))
+  pub decoded-truthful-before : (b i : ℕ) → i < (decodedFirst k L xs b) .place → Truthful ((decodedFirst k L xs b) .unfinished - 1) (at xs i) (at ((decodedFirst k L xs b) .numbers) i)
+  decoded-truthful-before b i h = unread-truthful b i _ (omega (arith, unread-before ((decodedFirst k L xs b) .unfinished) ((decodedFirst k L xs b) .place) i (omega (arith, h))))
 
   -- More bits never move a number away from the truth.
   pub decoded-never-worse : (b c i : ℕ) → b ≤ c

@@ -13,29 +13,29 @@ use Rattle.walk_laws.specs.Asks.{test-known, test-asks, number-known, nu
 use Rattle.walk_laws.specs.Together.{tape, Decodes}
 use Rattle.walk_laws.specs.Read.{Reads, Length, reads-numbers, walks-set, walks-rest, walks-split}
 
--- the walk f takes a bit
-record Due (f : Decodes (List ℤ)) : Type 0 where
-  missed : (f (tape [] false)) .1 ≡ tape [] true
+-- where no bit is left the walk f misses one
+record TakesBit (f : Decodes (List ℤ)) : Type 0 where
+  missed : (z : ℕ) → (y : ℕ) × ((f (tape [] false z)) .1 ≡ tape [] true y)
 
-due-next : {f g : Decodes (List ℤ)} {n K : ℕ} → Due f → Reads (Length n) K g → Due (_next_ Decoder f g)
+due-next : {f g : Decodes (List ℤ)} {n K : ℕ} → TakesBit f → Reads (Length n) K g → TakesBit (_next_ Decoder f g)
 unfolding _next_
-due-next {f} {g} F G = record { missed = ap (λ t. (g t) .1) (F .missed) ∙ ap (λ r. r .1) (G .over .is) }
+due-next {f} {g} F G = record { missed = λ z. let M = F .missed z in let O = G .over (M .0) in (O .place, ap (λ t. (g t) .1) (M .1) ∙ ap (λ r. r .1) (O .is)) }
 
-due-tested : (p : ℕ) (xs : List ℤ) (f : Decodes (List ℤ)) → Due f → Due (Decoder .then (testSet Decoder p xs) (opened Decoder xs f))
-due-tested p xs f F = record { missed = go (reaches (2 ^ suc p) xs) refl }
+due-tested : (p : ℕ) (xs : List ℤ) (f : Decodes (List ℤ)) → TakesBit f → TakesBit (Decoder .then (testSet Decoder p xs) (opened Decoder xs f))
+due-tested p xs f F = record { missed = λ z. go z (reaches (2 ^ suc p) xs) refl }
   where
-    go : (b : Bool) → reaches (2 ^ suc p) xs ≡ b → (Decoder .then (testSet Decoder p xs) (opened Decoder xs f) (tape [] false)) .1 ≡ tape [] true
-    go true e = rw (test-known Decoder p xs e) (F .missed)
-    go false e = rw (test-asks Decoder p xs e)
+    go : (z : ℕ) (b : Bool) → reaches (2 ^ suc p) xs ≡ b → (y : ℕ) × ((Decoder .then (testSet Decoder p xs) (opened Decoder xs f) (tape [] false z)) .1 ≡ tape [] true y)
+    go z true e = rw (test-known Decoder p xs e) (F .missed z)
+    go z false e = (z, rw (test-asks Decoder p xs e))
 
-due-number : (p : ℕ) (x : ℤ) → Due (walkNumber Decoder p x)
-due-number p x = record { missed = go (leb (2 ^ suc p) (natAbs x)) refl }
+due-number : (p : ℕ) (x : ℤ) → TakesBit (walkNumber Decoder p x)
+due-number p x = record { missed = λ z. (z, go z (leb (2 ^ suc p) (natAbs x)) refl) }
   where
-    go : (b : Bool) → leb (2 ^ suc p) (natAbs x) ≡ b → (walkNumber Decoder p x (tape [] false)) .1 ≡ tape [] true
-    go true e = rw (number-known Decoder p x e)
-    go false e = rw (number-asks Decoder p x e)
+    go : (z : ℕ) (b : Bool) → leb (2 ^ suc p) (natAbs x) ≡ b → (walkNumber Decoder p x (tape [] false z)) .1 ≡ tape [] true z
+    go z true e = rw (number-known Decoder p x e)
+    go z false e = rw (number-asks Decoder p x e)
 
-due-numbers : (p : ℕ) (xs : List ℤ) → 0 < length xs → Due (walkNumbers Decoder p xs)
+due-numbers : (p : ℕ) (xs : List ℤ) → 0 < length xs → TakesBit (walkNumbers Decoder p xs)
 unfolding walkNumbers
 due-numbers p [] h = absurd (omega arith)
 due-numbers p (x ∷ xs) h = due-next (due-number p x) (reads-numbers p xs)
@@ -44,7 +44,7 @@ due-numbers p (x ∷ xs) h = due-next (due-number p x) (reads-numbers p xs)
 first-some : (d : ℕ) (xs : List ℤ) → 0 < length xs → 0 < length (take (4 ^ suc d) xs)
 first-some d xs h = omega (arith, length-take (4 ^ suc d) xs, pow-le-pow-right {n = 4} (omega arith) {i = 0} {j = suc d} (omega arith))
 
-due-set : (p d : ℕ) (xs : List ℤ) → 0 < length xs → Due (walkSet Decoder p d xs)
+due-set : (p d : ℕ) (xs : List ℤ) → 0 < length xs → TakesBit (walkSet Decoder p d xs)
 unfolding walkSet
 due-set p zero xs h = due-tested p xs _ (due-numbers p xs h)
 due-set p (suc d) xs h =
@@ -52,6 +52,6 @@ due-set p (suc d) xs h =
     due-tested p xs _
     (due-next (due-set p d (take q xs) (first-some d xs h)) (walks-split q (drop q xs) (walks-set p d _) (walks-split q (drop q (drop q xs)) (walks-set p d _) (walks-set p d _)) .reads))
 
-pub plane-due : (d L p : ℕ) (xs : List ℤ) → 0 < length xs → (walkPlane Decoder d L p xs (tape [] false)) .1 ≡ tape [] true
+pub plane-due : (d L p : ℕ) (xs : List ℤ) → 0 < length xs → (z : ℕ) → (y : ℕ) × ((walkPlane Decoder d L p xs (tape [] false z)) .1 ≡ tape [] true y)
 unfolding walkPlane
 plane-due d L p xs h = due-next (due-set p d (take (4 ^ suc d) xs) (first-some d xs h)) (walks-rest p d L (drop (4 ^ suc d) xs) .reads) .missed

@@ -7,11 +7,11 @@ use native.Mathlib.Omega.{arith}
 use lib.Dec.{leb}
 use borrow.Author.Tests.{leb-true, leb-false}
 use lib.IntN.{ℤ}
-use lib.ListN.{length, drop, length-drop}
+use lib.ListN.{length, length-drop}
 use Rattle.paper.specs.Sizes.{numbersIn}
-use Rattle.paper.specs.Walk.{planeCount, depth, codeOf, decodeOf, Settled}
+use Rattle.paper.specs.Walk.{behindPlane, planeCount, depth, codeOf, decodeOf, Settled}
 use Rattle.walk_laws.specs.Cleared.{cleared}
-use Rattle.walk_laws.specs.Asks.{Closes, square-closes}
+use Rattle.walk_laws.specs.Asks.{square-sized}
 use Rattle.walk_laws.specs.Together.{tape}
 use Rattle.walk_laws.specs.Plane.{together-plane}
 use Rattle.walk_laws.specs.Planes.{planesCode, code-step}
@@ -24,15 +24,15 @@ unfoldable pub codedThrough : ℕ → ℕ → List ℤ → ℕ → ℕ
 codedThrough k L xs q = length (codeOf k L xs) - length (planesCode (depth k L) L xs q)
 
 -- over the coding of planes n - 1 to 0, planes n - 1 to q leave the coding of the others
-down-coding : (d L : ℕ) (xs : List ℤ) → Closes d L (drop (4 ^ suc d) xs) → (q n : ℕ) → q ≤ n
-    → walkDown d L q n (map (cleared n) xs) (tape (planesCode d L xs n) false) ≡ (map (cleared q) xs, tape (planesCode d L xs q) false)
-down-coding d L xs h q zero g = unfold walkDown in (λ i. let e : 0 ≡ q = omega arith in (map (cleared (e i)) xs, tape (planesCode d L xs (e i)) false))
+down-coding : (d L : ℕ) (xs : List ℤ) → length xs ≡ 4 ^ (suc d + L) → (q n : ℕ) → q ≤ n
+    → walkDown d L q n (map (cleared n) xs) (tape (planesCode d L xs n) false 0) ≡ (map (cleared q) xs, tape (planesCode d L xs q) false 0)
+down-coding d L xs h q zero g = unfold walkDown in (λ i. let e : 0 ≡ q = omega arith in (map (cleared (e i)) xs, tape (planesCode d L xs (e i)) false 0))
 down-coding d L xs h q (suc p) g = go (leb q p) refl (down-coding d L xs h q p)
   where
-    go : (b : Bool) → leb q p ≡ b → (q ≤ p → walkDown d L q p (map (cleared p) xs) (tape (planesCode d L xs p) false) ≡ (map (cleared q) xs, tape (planesCode d L xs q) false))
-        → walkDown d L q (suc p) (map (cleared (suc p)) xs) (tape (planesCode d L xs (suc p)) false) ≡ (map (cleared q) xs, tape (planesCode d L xs q) false)
-    go true e ih = rw (down-step d L q p (map (cleared (suc p)) xs) e, code-step d L xs h p) (ap (λ r. walkDown d L q p (r .0) (r .1)) (together-plane p d L xs h .full (planesCode d L xs p)) ∙ ih (leb-true q p e))
-    go false e ih = rw (down-ends d L q p (map (cleared (suc p)) xs) e) (λ i. let f : suc p ≡ q = omega (arith, leb-false q p e) in (map (cleared (f i)) xs, tape (planesCode d L xs (f i)) false))
+    go : (b : Bool) → leb q p ≡ b → (q ≤ p → walkDown d L q p (map (cleared p) xs) (tape (planesCode d L xs p) false 0) ≡ (map (cleared q) xs, tape (planesCode d L xs q) false 0))
+        → walkDown d L q (suc p) (map (cleared (suc p)) xs) (tape (planesCode d L xs (suc p)) false 0) ≡ (map (cleared q) xs, tape (planesCode d L xs q) false 0)
+    go true e ih = rw (down-step d L q p (map (cleared (suc p)) xs) e, code-step d L xs h p) (ap (λ r. walkDown d L q p (r .0) (behindPlane (r .1))) (together-plane p d L xs h .full (planesCode d L xs p) 0) ∙ ih (leb-true q p e))
+    go false e ih = rw (down-ends d L q p (map (cleared (suc p)) xs) e) (λ i. let f : suc p ≡ q = omega (arith, leb-false q p e) in (map (cleared (f i)) xs, tape (planesCode d L xs (f i)) false 0))
 
 module _ (k L : ℕ) (xs : List ℤ) (levels : L < k) (square : length xs ≡ 4 ^ k) (numbers-in : numbersIn xs ≡ true) where
   abbrev d : ℕ
@@ -51,8 +51,8 @@ module _ (k L : ℕ) (xs : List ℤ) (levels : L < k) (square : length xs ≡ 4 
   coding-left : (q : ℕ) → q ≤ n → bitsThrough k L n q code + length (planesCode d L xs q) ≡ length code
   unfolding planesOver bitsThrough codeOf
   coding-left q h =
-      let left : (planesOver k L n q code) .1 ≡ planesCode d L xs q = ap (λ z. (walkDown d L q n z (tape code false)) .1 .left) (sym (start-cleared k L xs levels square numbers-in))
-      ∙ ap (λ r. r .1 .left) (down-coding d L xs (square-closes k L xs levels square) q n h) in
+      let left : (planesOver k L n q code) .1 ≡ planesCode d L xs q = ap (λ z. (walkDown d L q n z (tape code false 0)) .1 .left) (sym (start-cleared k L xs levels square numbers-in))
+      ∙ ap (λ r. r .1 .left) (down-coding d L xs (square-sized k L xs levels square) q n h) in
       omega (arith, ap length left, ap length (through-first k L n q code (coding-read q)), length-drop (bitsThrough k L n q code) code)
 
   -- The last bit of plane q is where the coder wrote it.

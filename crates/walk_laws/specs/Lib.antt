@@ -1,5 +1,6 @@
 pub mod Cleared
 pub mod Asks
+pub mod Over
 pub mod Together
 pub mod Plane
 pub mod Planes
@@ -8,6 +9,8 @@ pub mod Bound
 pub mod Read
 pub mod Due
 pub mod Down
+pub mod Place
+pub mod Undecided
 pub mod Unfinished
 pub mod Finished
 pub mod Room

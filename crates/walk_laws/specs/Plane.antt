@@ -3,40 +3,41 @@ use mathlib.Core.Path.{_≡_, refl, sym, ap, _∙_, subst}
 use mathlib.Core.Bool.{Bool, true, false}
 use mathlib.Core.Option.{some}
 use mathlib.Core.List.{List, [], _∷_, _++_, map, append-nil, append-assoc}
-use Prim.Native.Nat.{ℕ, zero, suc, _+_, _^_, _≤_, _<_}
+use Prim.Native.Nat.{ℕ, suc, _+_, _^_, _≤_, _<_}
+use native.Mathlib.Nat.{add-zero}
 use native.Mathlib.Omega.{arith}
 use lib.Dec.{leb}
 use borrow.Author.Tests.{leb-true, leb-false}
 use lib.IntN.{ℤ, natAbs}
-use lib.ListN.{take, drop, take-append-drop}
-use Rattle.paper.specs.Walk.{negative, signed, bitOf, worth, reaches, Reading, Coder, Decoder, Tape, nextBit, isOne, testSet, refined, begun, walkNumber, walkNumbers, walkSet, walkRest, walkPlane, _next_}
+use lib.ListN.{length, take, drop, take-append-drop, length-map}
+use Rattle.paper.specs.Walk.{negative, signed, bitOf, worth, reaches, Due, Coder, Decoder, Tape, nextBit, isOne, testSet, refined, begun, walkNumber, walkNumbers, walkPlane, _next_}
 use Rattle.list_laws.specs.Mapped.{take-map, drop-map}
 use Rattle.walk_laws.specs.Cleared.{cleared, leb-cleared, cleared-refined, cleared-begun, cleared-still, reaches-cleared, closed-still}
-use Rattle.list_laws.specs.Parts.{fourth}
-use Rattle.walk_laws.specs.Asks.{test-known, test-asks, number-known, number-asks, afterBit, opened, Closes}
+use Rattle.walk_laws.specs.Asks.{test-known, test-asks, number-known, number-asks, afterBit, opened}
+use Rattle.walk_laws.specs.Over.{Walk, split, over-plane}
 use Rattle.walk_laws.specs.Together.{tape, Decodes, Grows, stops-unsettled, Together, nothing-after, tail-of, together-next}
 
 -- ---- one piece
 -- what is coded in one piece: a first part of its bits settles nothing
 together-piece : (p : ℕ) (xs : List ℤ) (B : List Bool) (f : Decodes (List ℤ))
-    → ((r : List Bool) → f (tape (B ++ r) false) ≡ (map (cleared p) xs, tape r false))
-    → ((l : List Bool) (b : Bool) (m : List Bool) → l ++ b ∷ m ≡ B → f (tape l false) ≡ (map (cleared (suc p)) xs, tape [] true))
-    → f (tape [] true) ≡ (map (cleared (suc p)) xs, tape [] true)
+    → ((r : List Bool) (z : ℕ) → f (tape (B ++ r) false z) ≡ (map (cleared p) xs, tape r false (z + length xs)))
+    → ((l : List Bool) (b : Bool) (m : List Bool) → l ++ b ∷ m ≡ B → (z : ℕ) → f (tape l false z) ≡ (map (cleared (suc p)) xs, tape [] true z))
+    → ((z : ℕ) → f (tape [] true z) ≡ (map (cleared (suc p)) xs, tape [] true z))
     → Together p xs (xs, B) f
 together-piece p xs B f full part over = record {
   held = refl;
   full = full;
   over = over;
-  part = λ l k b m h. record {
+  part = λ l k b m h z. record {
     j = 0;
     i = 0;
     grows = omega arith;
-    fewer = stops-unsettled p xs (early l (k ++ b ∷ m) (λ z. nothing-after k b m z) (sym (append-assoc l k (b ∷ m)) ∙ h));
-    more = stops-unsettled p xs (part (l ++ k) b m h);
+    fewer = stops-unsettled p xs z (early l (k ++ b ∷ m) (λ e. nothing-after k b m e) (sym (append-assoc l k (b ∷ m)) ∙ h) z);
+    more = stops-unsettled p xs z (part (l ++ k) b m h z);
   };
 }
   where
-    early : (l k : List Bool) → (k ≡ [] → ⊥) → l ++ k ≡ B → f (tape l false) ≡ (map (cleared (suc p)) xs, tape [] true)
+    early : (l k : List Bool) → (k ≡ [] → ⊥) → l ++ k ≡ B → (z : ℕ) → f (tape l false z) ≡ (map (cleared (suc p)) xs, tape [] true z)
     early l [] n e = absurd (n refl)
     early l (b ∷ m) n e = part l b m e
 
@@ -47,31 +48,32 @@ Behind p xs c f s t = Together p xs (Coder .then s (opened Coder xs c)) (Decoder
 module _ (p : ℕ) (xs : List ℤ) (c : List ℤ × List Bool) (f : Decodes (List ℤ)) (G : Together p xs c f) where
   -- the test takes a bit
   heard : Decodes Bool
-  heard t = let r = nextBit (t .left) (t .missed) in (isOne Decoder (r .0), r .1)
+  heard t = let r = nextBit (Due.test (length (map (cleared (suc p)) xs))) (t .left) (t .missed) (t .place) in (isOne Decoder (r .0), r .1)
 
   onward : Decodes (List ℤ)
   onward = Decoder .then heard (opened Decoder (map (cleared (suc p)) xs) f)
 
   asked : (b : Bool) → reaches (2 ^ p) xs ≡ b → Behind p xs c f (b, b ∷ []) heard
   unfolding heard onward
-  asked true e = record { held = G .held; full = λ r. G .full r; over = refl; part = go }
+  asked true e = record { held = G .held; full = λ r. G .full r; over = λ z. refl; part = go }
     where
-      first : (l : List Bool) (b : Bool) (m : List Bool) → l ++ b ∷ m ≡ true ∷ c .1 → Grows p xs (map (cleared (suc p)) xs, tape [] true) (onward (tape l false))
-      first [] b m h = record { j = 0; i = 0; grows = omega arith; fewer = stops-unsettled p xs refl; more = stops-unsettled p xs refl }
-      first (true ∷ l) b m h =
-          let P = G .part l [] b m (ap (λ l. l ++ b ∷ m) (append-nil l) ∙ tail-of h) in
-          record { j = 0; i = P .j; grows = omega arith; fewer = stops-unsettled p xs refl; more = P .fewer }
-      first (false ∷ l) b m h = absurd (let z : _≡_ {A = ℕ} 0 1 = cc in omega arith)
+      first : (l : List Bool) (b : Bool) (m : List Bool) → l ++ b ∷ m ≡ true ∷ c .1 → (z : ℕ) → Grows p xs z (map (cleared (suc p)) xs, tape [] true z) (onward (tape l false z))
+      first [] b m h z = record { j = 0; i = 0; grows = omega arith; fewer = stops-unsettled p xs z refl; more = stops-unsettled p xs z refl }
+      first (true ∷ l) b m h z =
+          let P = G .part l [] b m (ap (λ l. l ++ b ∷ m) (append-nil l) ∙ tail-of h) z in
+          record { j = 0; i = P .j; grows = omega arith; fewer = stops-unsettled p xs z refl; more = P .fewer }
+      first (false ∷ l) b m h z = absurd (let z : _≡_ {A = ℕ} 0 1 = cc in omega arith)
 
-      go : (l k : List Bool) (b : Bool) (m : List Bool) → (l ++ k) ++ b ∷ m ≡ true ∷ c .1 → Grows p xs (onward (tape l false)) (onward (tape (l ++ k) false))
+      go : (l k : List Bool) (b : Bool) (m : List Bool) → (l ++ k) ++ b ∷ m ≡ true ∷ c .1 → (z : ℕ) → Grows p xs z (onward (tape l false z)) (onward (tape (l ++ k) false z))
       go [] k b m h = first k b m h
       go (true ∷ l) k b m h = G .part l k b m (tail-of h)
       go (false ∷ l) k b m h = absurd (let z : _≡_ {A = ℕ} 0 1 = cc in omega arith)
-  asked false e = together-piece p xs (false ∷ []) _ (λ r. ap (λ z. (z, tape r false)) (closed-still p xs e)) go refl
+  asked false e =
+      together-piece p xs (false ∷ []) _ (λ r z i. (closed-still p xs e i, tape r false (z + length-map xs (cleared (suc p)) i))) go (λ z. refl)
     where
-      go : (l : List Bool) (b : Bool) (m : List Bool) → l ++ b ∷ m ≡ false ∷ [] → onward (tape l false) ≡ (map (cleared (suc p)) xs, tape [] true)
-      go [] b m h = refl
-      go (x ∷ l) b m h = absurd (nothing-after l b m (tail-of h))
+      go : (l : List Bool) (b : Bool) (m : List Bool) → l ++ b ∷ m ≡ false ∷ [] → (z : ℕ) → onward (tape l false z) ≡ (map (cleared (suc p)) xs, tape [] true z)
+      go [] b m h z = refl
+      go (x ∷ l) b m h z = absurd (nothing-after l b m (tail-of h))
 
   together-tested : Behind p xs c f (testSet Coder p xs) (testSet Decoder p (map (cleared (suc p)) xs))
   unfolding heard
@@ -88,32 +90,36 @@ module _ (p : ℕ) (x : ℤ) where
   y = cleared (suc p) x
 
   together-refined : 2 ^ suc p ≤ natAbs x → (b : Bool) → bitOf p (natAbs x) ≡ b
-      → Together p (x ∷ []) (x ∷ [], b ∷ []) (λ t. let r = nextBit (t .left) (t .missed) in (refined Decoder p y (r .0) ∷ [], r .1))
+      → Together p (x ∷ []) (x ∷ [], b ∷ []) (λ t. let r = nextBit Due.more (t .left) (t .missed) (t .place) in (refined Decoder p y (r .0) ∷ [], r .1))
   unfolding refined
   together-refined h b e =
-      together-piece p (x ∷ []) (b ∷ []) _ (λ r. ap (λ z. (z ∷ [], tape r false)) (ap (λ b. signed (negative y) (natAbs y + worth b p)) (sym e) ∙ cleared-refined p x h)) go refl
+      together-piece p (x ∷ []) (b ∷ []) _
+      (λ r z. ap (λ w. (w ∷ [], tape r false (z + 1))) (ap (λ b. signed (negative y) (natAbs y + worth b p)) (sym e) ∙ cleared-refined p x h)) go (λ z. refl)
     where
-      go : (l : List Bool) (b′ : Bool) (m : List Bool) → l ++ b′ ∷ m ≡ b ∷ [] → _≡_ {A = List ℤ × Tape} (let r = nextBit l false in (refined Decoder p y (r .0) ∷ [], r .1)) (y ∷ [], tape [] true)
-      go [] b′ m h = refl
-      go (z ∷ l) b′ m h = absurd (nothing-after l b′ m (tail-of h))
+      go : (l : List Bool) (b′ : Bool) (m : List Bool) → l ++ b′ ∷ m ≡ b ∷ [] → (z : ℕ) → _≡_ {A = List ℤ × Tape} (let r = nextBit Due.more l false z in (refined Decoder p y (r .0) ∷ [], r .1)) (y ∷ [], tape [] true z)
+      go [] b′ m h z = refl
+      go (w ∷ l) b′ m h z = absurd (nothing-after l b′ m (tail-of h))
+
+  abbrev signing : Decodes (List ℤ)
+  signing t = let r = nextBit (Due.test 1) (t .left) (t .missed) (t .place) in afterBit Decoder p y (isOne Decoder (r .0)) (r .1)
 
   together-begun : natAbs x < 2 ^ suc p → (b : Bool) → leb (2 ^ p) (natAbs x) ≡ b
-      → Together p (x ∷ []) (Coder .then (some b, b ∷ []) (λ b. afterBit Coder p x (isOne Coder b))) (λ t. let r = nextBit (t .left) (t .missed) in afterBit Decoder p y (isOne Decoder (r .0)) (r .1))
+      → Together p (x ∷ []) (Coder .then (some b, b ∷ []) (λ b. afterBit Coder p x (isOne Coder b))) signing
   unfolding begun
   together-begun h true e =
-      together-piece p (x ∷ []) (true ∷ negative x ∷ []) _ (λ r. ap (λ z. (z ∷ [], tape r false)) (cleared-begun p x h (leb-true (2 ^ p) (natAbs x) e))) go refl
+      together-piece p (x ∷ []) (true ∷ negative x ∷ []) _ (λ r z. ap (λ w. (w ∷ [], tape r false (z + 1))) (cleared-begun p x h (leb-true (2 ^ p) (natAbs x) e))) go (λ z. refl)
     where
-      go : (l : List Bool) (b : Bool) (m : List Bool) → l ++ b ∷ m ≡ true ∷ negative x ∷ [] → (let r = nextBit l false in afterBit Decoder p y (isOne Decoder (r .0)) (r .1)) ≡ (y ∷ [], tape [] true)
-      go [] b m h = refl
-      go (true ∷ []) b m h = refl
-      go (false ∷ []) b m h = absurd (let z : _≡_ {A = ℕ} 0 1 = cc in omega arith)
-      go (z ∷ w ∷ l) b m h = absurd (nothing-after l b m (tail-of (tail-of h)))
+      go : (l : List Bool) (b : Bool) (m : List Bool) → l ++ b ∷ m ≡ true ∷ negative x ∷ [] → (z : ℕ) → signing (tape l false z) ≡ (y ∷ [], tape [] true z)
+      go [] b m h z = refl
+      go (true ∷ []) b m h z = refl
+      go (false ∷ []) b m h z = absurd (let z : _≡_ {A = ℕ} 0 1 = cc in omega arith)
+      go (v ∷ w ∷ l) b m h z = absurd (nothing-after l b m (tail-of (tail-of h)))
   together-begun h false e =
-      together-piece p (x ∷ []) (false ∷ []) _ (λ r. ap (λ z. (z ∷ [], tape r false)) (cleared-still p x (leb-false (2 ^ p) (natAbs x) e))) go refl
+      together-piece p (x ∷ []) (false ∷ []) _ (λ r z. ap (λ w. (w ∷ [], tape r false (z + 1))) (cleared-still p x (leb-false (2 ^ p) (natAbs x) e))) go (λ z. refl)
     where
-      go : (l : List Bool) (b : Bool) (m : List Bool) → l ++ b ∷ m ≡ false ∷ [] → (let r = nextBit l false in afterBit Decoder p y (isOne Decoder (r .0)) (r .1)) ≡ (y ∷ [], tape [] true)
-      go [] b m h = refl
-      go (z ∷ l) b m h = absurd (nothing-after l b m (tail-of h))
+      go : (l : List Bool) (b : Bool) (m : List Bool) → l ++ b ∷ m ≡ false ∷ [] → (z : ℕ) → signing (tape l false z) ≡ (y ∷ [], tape [] true z)
+      go [] b m h z = refl
+      go (w ∷ l) b m h z = absurd (nothing-after l b m (tail-of h))
 
   together-number : Together p (x ∷ []) (walkNumber Coder p x) (walkNumber Decoder p y)
   unfolding refined
@@ -126,57 +132,26 @@ module _ (p : ℕ) (x : ℤ) where
           rw (number-asks Coder p x e, number-asks Decoder p y (leb-cleared (suc p) x ∙ e)) (together-begun (leb-false (2 ^ suc p) (natAbs x) e) (leb (2 ^ p) (natAbs x)) refl)
 
 together-done : (p : ℕ) → Together p [] ([], []) (λ t. ([], t))
-together-done p = together-piece p [] [] _ (λ r. refl) (λ l b m h. absurd (nothing-after l b m h)) refl
+together-done p = together-piece p [] [] _ (λ r z. ap (λ z. ([], tape r false z)) (sym (add-zero z))) (λ l b m h. absurd (nothing-after l b m h)) (λ z. refl)
 
 together-numbers : (p : ℕ) (xs : List ℤ) → Together p xs (walkNumbers Coder p xs) (walkNumbers Decoder p (map (cleared (suc p)) xs))
 unfolding walkNumbers
 together-numbers p [] = together-done p
 together-numbers p (x ∷ xs) = together-next (together-number p x) (together-numbers p xs)
 
+-- ---- the walk
 -- a walk of which the coder and the decoder go together in plane p
-Well : ℕ → ((R : Reading) → List ℤ → R .M (List ℤ)) → List ℤ → Type 0
+Well : ℕ → Walk → List ℤ → Type 0
 Well p w xs = Together p xs (w Coder xs) (w Decoder (map (cleared (suc p)) xs))
 
-abbrev split : (w v : (R : Reading) → List ℤ → R .M (List ℤ)) → ℕ → (R : Reading) → List ℤ → R .M (List ℤ)
-split w v n R xs = _next_ R (w R (take n xs)) (v R (drop n xs))
-
--- the first n numbers, then the others
-well-split : (p n : ℕ) (w v : (R : Reading) → List ℤ → R .M (List ℤ)) (xs : List ℤ) → Well p w (take n xs) → Well p v (drop n xs) → Well p (split w v n) xs
+well-split : (p n : ℕ) (w v : Walk) (xs : List ℤ) → Well p w (take n xs) → Well p v (drop n xs) → Well p (split w v n) xs
 unfolding Well
 well-split p n w v xs G H =
     let f = cleared (suc p) in
     rw (take-map f n xs, drop-map f n xs)
     (subst (λ l. Together p l (split w v n Coder xs) (_next_ Decoder (w Decoder (map f (take n xs))) (v Decoder (map f (drop n xs))))) (take-append-drop n xs) (together-next G H))
 
--- three sets of length q, then what lies behind them
-module _ (p d : ℕ) (v : (R : Reading) → List ℤ → R .M (List ℤ)) where
-  abbrev q : ℕ
-  q = 4 ^ suc d
-
-  abbrev sets : (R : Reading) → List ℤ → R .M (List ℤ)
-  sets R = walkSet R p d
-
-  abbrev three : (R : Reading) → List ℤ → R .M (List ℤ)
-  three = split sets (split sets (split sets v q) q) q
-
-  well-three : ((ys : List ℤ) → Well p sets ys) → (xs : List ℤ) → Well p v (fourth q xs) → Well p three xs
-  well-three W xs G = well-split p q sets _ xs (W _) (well-split p q sets _ (drop q xs) (W _) (well-split p q sets v (drop q (drop q xs)) (W _) G))
-
--- ---- the walk
-well-set : (p d : ℕ) (xs : List ℤ) → Well p (λ R. walkSet R p d) xs
-unfolding walkSet Well
-well-set p zero xs = together-tested p xs _ _ (together-numbers p xs)
-well-set p (suc d) xs = together-tested p xs _ _ (well-three p d (λ R. walkSet R p d) (well-set p d) xs (well-set p d (fourth (4 ^ suc d) xs)))
-
-well-rest : (p d left : ℕ) (xs : List ℤ) → Closes d left xs → Well p (λ R. walkRest R p d left) xs
-unfolding walkRest Well
-well-rest p d zero xs h = subst (λ l. Together p l (l, []) (λ t. (map (cleared (suc p)) l, t))) (sym h) (together-done p)
-well-rest p d (suc left) xs h =
-    together-tested p xs _ _ (well-three p d (λ R. walkRest R p (suc d) left) (well-set p d) xs (well-rest p (suc d) left (fourth (4 ^ suc d) xs) h))
-
-pub together-plane : (p d L : ℕ) (xs : List ℤ) → Closes d L (drop (4 ^ suc d) xs)
+pub together-plane : (p d L : ℕ) (xs : List ℤ) → length xs ≡ 4 ^ (suc d + L)
     → Together p xs (walkPlane Coder d L p xs) (walkPlane Decoder d L p (map (cleared (suc p)) xs))
-unfolding walkPlane Well
-together-plane p d L xs h =
-    let q = 4 ^ suc d in
-    well-split p q (λ R. walkSet R p d) (λ R. walkRest R p d L) xs (well-set p d (take q xs)) (well-rest p d L (drop q xs) h)
+unfolding Well
+together-plane p = over-plane p (Well p) (together-done p) (together-numbers p) (λ w xs _ G. together-tested p xs _ _ G) (λ w v n xs _. well-split p n w v xs)

@@ -3,15 +3,17 @@ use mathlib.Core.Path.{_≡_, refl, sym, ap, _∙_}
 use mathlib.Core.Logic.{_⊎_, inl, inr}
 use mathlib.Core.Bool.{Bool, true, false}
 use mathlib.Core.List.{List, [], _∷_, _++_, map, append-nil, append-assoc}
-use Prim.Native.Nat.{ℕ, zero, suc, _+_, _^_, _≤_, _<_}
+use Prim.Native.Nat.{ℕ, zero, suc, _+_, _-_, _^_, _≤_, _<_}
+use native.Mathlib.Nat.{zero-add}
 use native.Mathlib.Omega.{arith}
 use lib.Pow.{pow-pos}
+use lib.Dec.{ltb}
+use borrow.Author.Tests.{ltb-true, ltb-false}
 use lib.IntN.{ℤ, pos}
-use lib.ListN.{drop}
-use Rattle.paper.specs.Lists.{at}
-use Rattle.paper.specs.Walk.{Coder, Decoder, Tape, walkPlane, walkPlanes}
+use lib.ListN.{length}
+use Rattle.paper.specs.Lists.{at, pick}
+use Rattle.paper.specs.Walk.{Coder, Decoder, Tape, behindPlane, walkPlane, walkPlanes, unreadAt}
 use Rattle.walk_laws.specs.Cleared.{cleared, cleared-small}
-use Rattle.walk_laws.specs.Asks.{Closes}
 use Rattle.walk_laws.specs.Together.{tape, settled, Together, Stops, Ends, Goes, first-part-splits, nothing-after}
 use Rattle.walk_laws.specs.Plane.{together-plane}
 
@@ -41,6 +43,26 @@ unsettled-mono p (suc j) zero i h = absurd (omega arith)
 unsettled-mono p (suc j) (suc k) zero h = omega arith
 unsettled-mono p (suc j) (suc k) (suc i) h = unsettled-mono p j k i (omega arith)
 
+unsettled-before : (p j i : ℕ) → i < j → unsettled p j i ≡ p
+unfolding unsettled
+unsettled-before p zero i h = absurd (omega arith)
+unsettled-before p (suc j) zero h = refl
+unsettled-before p (suc j) (suc i) h = unsettled-before p j i (omega arith)
+
+unsettled-from : (p j i : ℕ) → j ≤ i → unsettled p j i ≡ suc p
+unfolding unsettled
+unsettled-from p zero i h = refl
+unsettled-from p (suc j) zero h = absurd (omega arith)
+unsettled-from p (suc j) (suc i) h = unsettled-from p j i (omega arith)
+
+pub unsettled-is : (p j i : ℕ) → unsettled p j i ≡ unreadAt (suc p) j i
+unfolding unreadAt
+unsettled-is p j i = go (ltb i j) refl
+  where
+    go : (b : Bool) → ltb i j ≡ b → unsettled p j i ≡ pick b (suc p - 1) (suc p)
+    go true e = omega (arith, unsettled-before p j i (ltb-true i j e))
+    go false e = unsettled-from p j i (ltb-false i j e)
+
 pub settled-at : (p j : ℕ) (xs : List ℤ) (i : ℕ) → at (settled p j xs) i ≡ cleared (unsettled p j i) (at xs i)
 unfolding settled unsettled
 settled-at p j [] i = sym (cleared-small (unsettled p j i) (pos 0) (pow-pos (unsettled p j i)))
@@ -54,10 +76,10 @@ settled-at p (suc j) (x ∷ xs) (suc i) = settled-at p j xs i
 abbrev pub planesCode : ℕ → ℕ → List ℤ → ℕ → List Bool
 planesCode d L xs n = (walkPlanes Coder d L n xs) .1
 
--- the bits are out in plane `plane`, of which `count` numbers are settled
+-- the bits are out in plane `plane`, of which `count` numbers are settled, and the place says so
 pub record Stopped (xs : List ℤ) (n plane count : ℕ) (r : (List ℤ × ℕ) × Tape) : Type 0 where
   pub under : plane < n
-  pub is : r ≡ ((settled plane count xs, suc plane), tape [] true)
+  pub is : r ≡ ((settled plane count xs, suc plane), tape [] true count)
 
 -- two first parts of the bits, the second not shorter: of no number does it leave more unsettled
 pub record Further (xs : List ℤ) (n : ℕ) (r s : (List ℤ × ℕ) × Tape) : Type 0 where
@@ -69,17 +91,20 @@ pub record Further (xs : List ℤ) (n : ℕ) (r s : (List ℤ × ℕ) × Tape) :
   pub more : Stopped xs n plane′ count′ s
   pub settles : (i : ℕ) → unsettled plane′ count′ i ≤ unsettled plane count i
 
-pub plane-finished : (d L p : ℕ) (ys : List ℤ) (t : Tape) {zs : List ℤ} {l : List Bool} → walkPlane Decoder d L p ys t ≡ (zs, tape l false)
-    → walkPlanes Decoder d L (suc p) ys t ≡ walkPlanes Decoder d L p zs (tape l false)
-unfolding walkPlanes
-plane-finished d L p ys t h = ap (λ r. (elim (r .1 .missed) as (λ _. (Tape → (List ℤ × ℕ) × Tape)) [ true ↦ Decoder .done (r .0, suc p) | false ↦ walkPlanes Decoder d L p (r .0) ]) (r .1)) h
+-- what follows a plane
+abbrev after-plane : ℕ → ℕ → ℕ → List ℤ × Tape → (List ℤ × ℕ) × Tape
+after-plane d L p r = (elim (r .1 .missed) as (λ _. (Tape → (List ℤ × ℕ) × Tape)) [ true ↦ Decoder .done (r .0, suc p) | false ↦ walkPlanes Decoder d L p (r .0) ]) (behindPlane (r .1))
 
-pub plane-stopped : (d L p : ℕ) (ys : List ℤ) (t : Tape) {zs : List ℤ} {l : List Bool} → walkPlane Decoder d L p ys t ≡ (zs, tape l true)
-    → walkPlanes Decoder d L (suc p) ys t ≡ ((zs, suc p), tape l true)
-unfolding walkPlanes
-plane-stopped d L p ys t h = ap (λ r. (elim (r .1 .missed) as (λ _. (Tape → (List ℤ × ℕ) × Tape)) [ true ↦ Decoder .done (r .0, suc p) | false ↦ walkPlanes Decoder d L p (r .0) ]) (r .1)) h
+module _ (d L p : ℕ) (ys : List ℤ) (t : Tape) {zs : List ℤ} {l : List Bool} {z : ℕ} where
+  pub plane-finished : walkPlane Decoder d L p ys t ≡ (zs, tape l false z) → walkPlanes Decoder d L (suc p) ys t ≡ walkPlanes Decoder d L p zs (tape l false 0)
+  unfolding walkPlanes
+  plane-finished h = ap (after-plane d L p) h
 
-module _ (d L : ℕ) (xs : List ℤ) (h : Closes d L (drop (4 ^ suc d) xs)) where
+  pub plane-stopped : walkPlane Decoder d L p ys t ≡ (zs, tape l true z) → walkPlanes Decoder d L (suc p) ys t ≡ ((zs, suc p), tape l true z)
+  unfolding walkPlanes
+  plane-stopped h = ap (after-plane d L p) h
+
+module _ (d L : ℕ) (xs : List ℤ) (h : length xs ≡ 4 ^ (suc d + L)) where
   abbrev code : ℕ → List Bool
   code = planesCode d L xs
 
@@ -88,7 +113,7 @@ module _ (d L : ℕ) (xs : List ℤ) (h : Closes d L (drop (4 ^ suc d) xs)) wher
 
   -- what the decoder makes of bits l, where planes n - 1 to 0 are to come
   abbrev pub run : ℕ → List Bool → (List ℤ × ℕ) × Tape
-  run n l = walkPlanes Decoder d L n (map (cleared n) xs) (tape l false)
+  run n l = walkPlanes Decoder d L n (map (cleared n) xs) (tape l false 0)
 
   plane-held : (p : ℕ) → (walkPlane Coder d L p xs) .0 ≡ xs
   plane-held p = together-plane p d L xs h .held
@@ -99,14 +124,14 @@ module _ (d L : ℕ) (xs : List ℤ) (h : Closes d L (drop (4 ^ suc d) xs)) wher
   code-step p = ap (λ z. planeCode p ++ (walkPlanes Coder d L p z) .1) (plane-held p)
 
   past : (p : ℕ) (l l′ : List Bool) → l ≡ planeCode p ++ l′ → run (suc p) l ≡ run p l′
-  past p l l′ e = plane-finished d L p _ _ (ap (λ l. walkPlane Decoder d L p (map (cleared (suc p)) xs) (tape l false)) e ∙ together-plane p d L xs h .full l′)
+  past p l l′ e = plane-finished d L p _ _ (ap (λ l. walkPlane Decoder d L p (map (cleared (suc p)) xs) (tape l false 0)) e ∙ together-plane p d L xs h .full l′ 0)
 
-  pub run-whole : (n : ℕ) (r : List Bool) → run n (code n ++ r) ≡ ((map (cleared 0) xs, 0), tape r false)
+  pub run-whole : (n : ℕ) (r : List Bool) → run n (code n ++ r) ≡ ((map (cleared 0) xs, 0), tape r false 0)
   run-whole zero r = unfold walkPlanes in refl
   run-whole (suc p) r = past p _ (code p ++ r) (ap (λ l. l ++ r) (code-step p) ∙ append-assoc (planeCode p) (code p) r) ∙ run-whole p r
 
-  stopped-in : (p : ℕ) (l : List Bool) (j : ℕ) → Stops p xs j (walkPlane Decoder d L p (map (cleared (suc p)) xs) (tape l false)) → Stopped xs (suc p) p j (run (suc p) l)
-  stopped-in p l j S = record { under = omega arith; is = plane-stopped d L p _ _ (S .1) }
+  stopped-in : (p : ℕ) (l : List Bool) (j : ℕ) → Stops p xs 0 j (walkPlane Decoder d L p (map (cleared (suc p)) xs) (tape l false 0)) → Stopped xs (suc p) p j (run (suc p) l)
+  stopped-in p l j S = record { under = omega arith; is = plane-stopped d L p _ _ (S .1) ∙ ap (λ z. ((settled p j xs, suc p), tape [] true z)) (zero-add j) }
 
   stopped-below : (p : ℕ) (l l′ : List Bool) {u j : ℕ} → l ≡ planeCode p ++ l′ → Stopped xs p u j (run p l′) → Stopped xs (suc p) u j (run (suc p) l)
   stopped-below p l l′ e S = record { under = omega (arith, S .under); is = past p l l′ e ∙ S .is }
@@ -132,7 +157,7 @@ module _ (d L : ℕ) (xs : List ℤ) (h : Closes d L (drop (4 ^ suc d) xs)) wher
 
       on : (g : Goes (l ++ k) (b ∷ m) B C) → Ends l B ⊎ Goes l k B (g .0) → Below → Goal
       on g (inl i) ih =
-          let P = G .part l [] (i .0) (i .1) (ap (λ l. l ++ i .0 ∷ i .1) (append-nil l) ∙ i .2) in
+          let P = G .part l [] (i .0) (i .1) (ap (λ l. l ++ i .0 ∷ i .1) (append-nil l) ∙ i .2) 0 in
           let Q = ih (g .0) [] (ap (λ l. l ++ b ∷ m) (append-nil (g .0)) ∙ g .2) in
           record {
             plane = p;
@@ -157,7 +182,7 @@ module _ (d L : ℕ) (xs : List ℤ) (h : Closes d L (drop (4 ^ suc d) xs)) wher
 
       go : Ends (l ++ k) B ⊎ Goes (l ++ k) (b ∷ m) B C → Below → Goal
       go (inl i) ih =
-          let Q = G .part l k (i .0) (i .1) (i .2) in
+          let Q = G .part l k (i .0) (i .1) (i .2) 0 in
           record {
             plane = p;
             count = Q .j;

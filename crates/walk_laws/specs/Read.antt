@@ -13,7 +13,7 @@ use lib.IntN.{ℤ, pos, natAbs}
 use lib.ListN.{length, take, drop, replicate, length-take, length-append, length-replicate, take-append-drop}
 use lib.Seq.{take-all}
 use Rattle.paper.specs.Sizes.{mostSize, mostPlanes}
-use Rattle.paper.specs.Walk.{reaches, Decoder, Tape, nextBit, isOne, testSet, refined, begun, walkNumber, walkNumbers, walkSet, walkRest, walkPlane, walkPlanes, depth, decodeOf, Settled, _next_}
+use Rattle.paper.specs.Walk.{reaches, Due, placeAfter, Decoder, Tape, nextBit, behindPlane, isOne, testSet, refined, begun, walkNumber, walkNumbers, walkSet, walkRest, walkPlane, walkPlanes, depth, decodeOf, Settled, _next_}
 use Rattle.list_laws.specs.Parts.{fourth}
 use Rattle.walk_laws.specs.Asks.{test-known, test-asks, number-known, number-asks, afterBit, opened}
 use Rattle.walk_laws.specs.Together.{tape, Decodes}
@@ -22,35 +22,37 @@ use Rattle.walk_laws.specs.Bound.{setTests, restTests, set-tests, rest-t
 -- ---- a walk and its tape
 -- P says what is known of the answer, by whether a bit was missed.
 -- Enough: a first part of the bits l is taken, of at most K bits, and what stands behind that part is left as it is.
-pub record Enough {A : Type 0} (P : Bool → A → Type 0) (K : ℕ) (f : Decodes A) (l : List Bool) : Type 0 where
+pub record Enough {A : Type 0} (P : Bool → A → Type 0) (K : ℕ) (f : Decodes A) (l : List Bool) (z : ℕ) : Type 0 where
   pub answer : A
   pub known : P false answer
   pub taken : List Bool
   pub rest : List Bool
   pub parts : l ≡ taken ++ rest
   pub few : length taken ≤ K
-  pub is : (r : List Bool) → f (tape (taken ++ r) false) ≡ (answer, tape r false)
+  pub place : ℕ
+  pub is : (r : List Bool) → f (tape (taken ++ r) false z) ≡ (answer, tape r false place)
 
 -- Missed: all of t is read, and a bit is missed.
 pub record Missed {A : Type 0} (P : Bool → A → Type 0) (f : Decodes A) (t : Tape) : Type 0 where
   pub answer : A
   pub known : P true answer
-  pub is : f t ≡ (answer, tape [] true)
+  pub place : ℕ
+  pub is : f t ≡ (answer, tape [] true place)
 
-pub data Outcome {A : Type 0} (P : Bool → A → Type 0) (K : ℕ) (f : Decodes A) (l : List Bool) : Type 0 where
-  enough : Enough P K f l → Outcome P K f l
-  short : length l < K → Missed P f (tape l false) → Outcome P K f l
+pub data Outcome {A : Type 0} (P : Bool → A → Type 0) (K : ℕ) (f : Decodes A) (l : List Bool) (z : ℕ) : Type 0 where
+  enough : Enough P K f l z → Outcome P K f l z
+  short : length l < K → Missed P f (tape l false z) → Outcome P K f l z
 
--- any bits, and a tape on which one has been missed
+-- any bits, from any place on, and a tape on which one has been missed
 pub record Reads {A : Type 0} (P : Bool → A → Type 0) (K : ℕ) (f : Decodes A) : Type 0 where
-  pub from : (l : List Bool) → Outcome P K f l
-  pub over : Missed P f (tape [] true)
+  pub from : (l : List Bool) (z : ℕ) → Outcome P K f l z
+  pub over : (z : ℕ) → Missed P f (tape [] true z)
 
-pub enough-is : {A : Type 0} {P : Bool → A → Type 0} {K : ℕ} {f : Decodes A} {l : List Bool} (E : Enough P K f l) → f (tape l false) ≡ (E .answer, tape (E .rest) false)
-enough-is {f = f} E = ap (λ m. f (tape m false)) (E .parts) ∙ E .is (E .rest)
+pub enough-is : {A : Type 0} {P : Bool → A → Type 0} {K : ℕ} {f : Decodes A} {l : List Bool} {z : ℕ} (E : Enough P K f l z) → f (tape l false z) ≡ (E .answer, tape (E .rest) false (E .place))
+enough-is {f = f} {z = z} E = ap (λ m. f (tape m false z)) (E .parts) ∙ E .is (E .rest)
 
 -- what is enough is enough with more behind it
-abbrev pub enough-more : {A : Type 0} {P : Bool → A → Type 0} {K : ℕ} {f : Decodes A} {l : List Bool} (r : List Bool) → Enough P K f l → Enough P K f (l ++ r)
+abbrev pub enough-more : {A : Type 0} {P : Bool → A → Type 0} {K : ℕ} {f : Decodes A} {l : List Bool} {z : ℕ} (r : List Bool) → Enough P K f l z → Enough P K f (l ++ r) z
 enough-more r E = record {
   answer = E .answer;
   known = E .known;
@@ -58,8 +60,14 @@ enough-more r E = record {
   rest = E .rest ++ r;
   parts = ap (λ m. m ++ r) (E .parts) ∙ append-assoc (E .taken) (E .rest) r;
   few = E .few;
+  place = E .place;
   is = E .is;
 }
+
+-- a walk that makes of any bits what another makes of them from another place on
+pub outcome-same : {A : Type 0} {P : Bool → A → Type 0} {K : ℕ} {f g : Decodes A} {l : List Bool} {y z : ℕ} → ((m : List Bool) → g (tape m false z) ≡ f (tape m false y)) → Outcome P K f l y → Outcome P K g l z
+outcome-same e (enough E) = enough (record { answer = E .answer; known = E .known; taken = E .taken; rest = E .rest; parts = E .parts; few = E .few; place = E .place; is = λ r. e (E .taken ++ r) ∙ E .is r })
+outcome-same {l = l} e (short h M) = short h (record { answer = M .answer; known = M .known; place = M .place; is = e l ∙ M .is })
 
 -- where P leaves nothing to choose
 abbrev pub Any : {A : Type 0} → Bool → A → Type 0
@@ -69,32 +77,34 @@ abbrev pub Length : ℕ → Bool → List ℤ → Type 0
 Length n m zs = length zs ≡ n
 
 module _ {A B : Type 0} {P : Bool → A → Type 0} {Q : Bool → B → Type 0} {K J : ℕ} {f : Decodes A} (g : A → Decodes B) (F : Reads P K f)
-    (G : (a : A) → P false a → (l : List Bool) → Outcome Q J (g a) l) (H : (a : A) → P true a → Missed Q (g a) (tape [] true)) where
+    (G : (a : A) → P false a → (l : List Bool) (z : ℕ) → Outcome Q J (g a) l z) (H : (a : A) → P true a → (z : ℕ) → Missed Q (g a) (tape [] true z)) where
   then-missed : {t : Tape} → Missed P f t → Missed Q (λ t. g ((f t) .0) ((f t) .1)) t
-  then-missed M = let N = H (M .answer) (M .known) in record { answer = N .answer; known = N .known; is = ap (λ r. g (r .0) (r .1)) (M .is) ∙ N .is }
+  then-missed M = let N = H (M .answer) (M .known) (M .place) in record { answer = N .answer; known = N .known; place = N .place; is = ap (λ r. g (r .0) (r .1)) (M .is) ∙ N .is }
 
   reads-then : Reads Q (K + J) (λ t. g ((f t) .0) ((f t) .1))
-  reads-then = record { from = λ l. go l (F .from l); over = then-missed (F .over) }
+  reads-then = record { from = λ l z. go l z (F .from l z); over = λ z. then-missed (F .over z) }
     where
-      on : (l : List Bool) (E : Enough P K f l) → Outcome Q J (g (E .answer)) (E .rest) → Outcome Q (K + J) (λ t. g ((f t) .0) ((f t) .1)) l
-      on l E (enough D) = enough (record {
+      on : (l : List Bool) (z : ℕ) (E : Enough P K f l z) → Outcome Q J (g (E .answer)) (E .rest) (E .place) → Outcome Q (K + J) (λ t. g ((f t) .0) ((f t) .1)) l z
+      on l z E (enough D) = enough (record {
         answer = D .answer;
         known = D .known;
         taken = E .taken ++ D .taken;
         rest = D .rest;
         parts = E .parts ∙ ap (λ m. E .taken ++ m) (D .parts) ∙ sym (append-assoc (E .taken) (D .taken) (D .rest));
         few = omega (arith, E .few, D .few, length-append (E .taken) (D .taken));
+        place = D .place;
         is = λ r. rw append-assoc (ap (λ s. g (s .0) (s .1)) (E .is (D .taken ++ r)) ∙ D .is r);
       })
-      on l E (short h M) = short (omega (arith, h, E .few, ap length (E .parts), length-append (E .taken) (E .rest))) (record {
+      on l z E (short h M) = short (omega (arith, h, E .few, ap length (E .parts), length-append (E .taken) (E .rest))) (record {
         answer = M .answer;
         known = M .known;
+        place = M .place;
         is = ap (λ s. g (s .0) (s .1)) (enough-is E) ∙ M .is;
       })
 
-      go : (l : List Bool) → Outcome P K f l → Outcome Q (K + J) (λ t. g ((f t) .0) ((f t) .1)) l
-      go l (enough E) = on l E (G (E .answer) (E .known) (E .rest))
-      go l (short h M) = short (omega arith) (then-missed M)
+      go : (l : List Bool) (z : ℕ) → Outcome P K f l z → Outcome Q (K + J) (λ t. g ((f t) .0) ((f t) .1)) l z
+      go l z (enough E) = on l z E (G (E .answer) (E .known) (E .rest) (E .place))
+      go l z (short h M) = short (omega arith) (then-missed M)
 
 -- one walk, then another that reads at most J bits whatever the first says
 pub reads-both : {A B : Type 0} {P : Bool → A → Type 0} {Q : Bool → B → Type 0} {K J : ℕ} {f : Decodes A} (g : A → Decodes B) → Reads P K f
@@ -102,24 +112,24 @@ pub reads-both : {A B : Type 0} {P : Bool → A → Type 0} {Q : Bool → B → 
 reads-both g F G = reads-then g F (λ a p. G false a p .from) (λ a p. G true a p .over)
 
 pub reads-more : {A : Type 0} {P : Bool → A → Type 0} {K : ℕ} {f : Decodes A} (J : ℕ) → K ≤ J → Reads P K f → Reads P J f
-reads-more {A} {P} {K} {f} J h F = record { from = λ l. go l (F .from l); over = F .over }
+reads-more {A} {P} {K} {f} J h F = record { from = λ l z. go l z (F .from l z); over = F .over }
   where
-    go : (l : List Bool) → Outcome P K f l → Outcome P J f l
-    go l (enough E) = enough (record { answer = E .answer; known = E .known; taken = E .taken; rest = E .rest; parts = E .parts; few = omega (arith, E .few); is = E .is })
-    go l (short g M) = short (omega arith) M
+    go : (l : List Bool) (z : ℕ) → Outcome P K f l z → Outcome P J f l z
+    go l z (enough E) = enough (record { answer = E .answer; known = E .known; taken = E .taken; rest = E .rest; parts = E .parts; few = omega (arith, E .few); place = E .place; is = E .is })
+    go l z (short g M) = short (omega arith) M
 
 pub reads-done : {A : Type 0} {P : Bool → A → Type 0} (a : A) → ((m : Bool) → P m a) → Reads P 0 (λ t. (a, t))
 reads-done a p = record {
-  from = λ l. enough (record { answer = a; known = p false; taken = []; rest = l; parts = refl; few = omega arith; is = λ r. refl });
-  over = record { answer = a; known = p true; is = refl };
+  from = λ l z. enough (record { answer = a; known = p false; taken = []; rest = l; parts = refl; few = omega arith; place = z; is = λ r. refl });
+  over = λ z. record { answer = a; known = p true; place = z; is = refl };
 }
 
-reads-bit : Reads {A = Option Bool} Any 1 (λ t. nextBit (t .left) (t .missed))
-reads-bit = record { from = go; over = record { answer = none; known = tt; is = refl } }
+pub reads-bit : (due : Due) → Reads {A = Option Bool} Any 1 (λ t. nextBit due (t .left) (t .missed) (t .place))
+reads-bit due = record { from = go; over = λ z. record { answer = none; known = tt; place = z; is = refl } }
   where
-    go : (l : List Bool) → Outcome {A = Option Bool} Any 1 (λ t. nextBit (t .left) (t .missed)) l
-    go [] = short (omega arith) (record { answer = none; known = tt; is = refl })
-    go (b ∷ l) = enough (record { answer = some b; known = tt; taken = b ∷ []; rest = l; parts = refl; few = omega arith; is = λ r. refl })
+    go : (l : List Bool) (z : ℕ) → Outcome {A = Option Bool} Any 1 (λ t. nextBit due (t .left) (t .missed) (t .place)) l z
+    go [] z = short (omega arith) (record { answer = none; known = tt; place = z; is = refl })
+    go (b ∷ l) z = enough (record { answer = some b; known = tt; taken = b ∷ []; rest = l; parts = refl; few = omega arith; place = placeAfter due b z; is = λ r. refl })
 
 -- ---- one plane
 reads-test : (p : ℕ) (xs : List ℤ) → Reads {A = Bool} Any 1 (testSet Decoder p xs)
@@ -127,10 +137,10 @@ reads-test p xs = go (reaches (2 ^ suc p) xs) refl
   where
     go : (b : Bool) → reaches (2 ^ suc p) xs ≡ b → Reads {A = Bool} Any 1 (testSet Decoder p xs)
     go true e = rw (test-known Decoder p xs e) (reads-more 1 (omega arith) (reads-done {P = Any} true (λ _. tt)))
-    go false e = rw (test-asks Decoder p xs e) (reads-both (λ b. Decoder .done (isOne Decoder b)) reads-bit (λ _ b _. reads-done {P = Any} (isOne Decoder b) (λ _. tt)))
+    go false e = rw (test-asks Decoder p xs e) (reads-both (λ b. Decoder .done (isOne Decoder b)) (reads-bit _) (λ _ b _. reads-done {P = Any} (isOne Decoder b) (λ _. tt)))
 
 reads-sign : (p : ℕ) (x : ℤ) (o : Bool) → Reads (Length 1) 1 (afterBit Decoder p x o)
-reads-sign p x true = reads-both (λ s. Decoder .done (begun Decoder p x s ∷ [])) reads-bit (λ _ s _. reads-done {P = Length 1} (begun Decoder p x s ∷ []) (λ _. refl))
+reads-sign p x true = reads-both (λ s. Decoder .done (begun Decoder p x s ∷ [])) (reads-bit _) (λ _ s _. reads-done {P = Length 1} (begun Decoder p x s ∷ []) (λ _. refl))
 reads-sign p x false = reads-more 1 (omega arith) (reads-done {P = Length 1} (x ∷ []) (λ _. refl))
 
 reads-number : (p : ℕ) (x : ℤ) → Reads (Length 1) 2 (walkNumber Decoder p x)
@@ -139,10 +149,10 @@ reads-number p x = go (leb (2 ^ suc p) (natAbs x)) refl
     go : (b : Bool) → leb (2 ^ suc p) (natAbs x) ≡ b → Reads (Length 1) 2 (walkNumber Decoder p x)
     go true e =
         rw (number-known Decoder p x e)
-        (reads-more 2 (omega arith) (reads-both (λ b. Decoder .done (refined Decoder p x b ∷ [])) reads-bit (λ _ b _. reads-done {P = Length 1} (refined Decoder p x b ∷ []) (λ _. refl))))
-    go false e = rw (number-asks Decoder p x e) (reads-both (λ b. afterBit Decoder p x (isOne Decoder b)) reads-bit (λ _ b _. reads-sign p x (isOne Decoder b)))
+        (reads-more 2 (omega arith) (reads-both (λ b. Decoder .done (refined Decoder p x b ∷ [])) (reads-bit _) (λ _ b _. reads-done {P = Length 1} (refined Decoder p x b ∷ []) (λ _. refl))))
+    go false e = rw (number-asks Decoder p x e) (reads-both (λ b. afterBit Decoder p x (isOne Decoder b)) (reads-bit _) (λ _ b _. reads-sign p x (isOne Decoder b)))
 
-reads-next : {m n K J : ℕ} {f g : Decodes (List ℤ)} (s : ℕ) → m + n ≡ s → Reads (Length m) K f → Reads (Length n) J g → Reads (Length s) (K + J) (_next_ Decoder f g)
+pub reads-next : {m n K J : ℕ} {f g : Decodes (List ℤ)} (s : ℕ) → m + n ≡ s → Reads (Length m) K f → Reads (Length n) J g → Reads (Length s) (K + J) (_next_ Decoder f g)
 unfolding _next_
 reads-next {m} {n} {K} {J} {f} {g} s e F G =
     reads-both (λ a t. let r = g t in (a ++ r .0, r .1)) F
@@ -205,36 +215,31 @@ planeMost d L N = setTests d + restTests d L + 2 * N
 module _ (d L N : ℕ) where
   -- what follows a plane
   then-plane : ℕ → List ℤ → Decodes (List ℤ × ℕ)
-  then-plane p ys t = (elim (t .missed) as (λ _. Decodes (List ℤ × ℕ)) [ true ↦ Decoder .done (ys, suc p) | false ↦ walkPlanes Decoder d L p ys ]) t
+  then-plane p ys t = (elim (t .missed) as (λ _. Decodes (List ℤ × ℕ)) [ true ↦ Decoder .done (ys, suc p) | false ↦ walkPlanes Decoder d L p ys ]) (behindPlane t)
 
-  reads-planes : (n : ℕ) (xs : List ℤ) → length xs ≡ N → (l : List Bool) → Outcome (Counted N) (n * planeMost d L N) (walkPlanes Decoder d L n xs) l
+  reads-planes : (n : ℕ) (xs : List ℤ) → length xs ≡ N → (l : List Bool) (z : ℕ) → Outcome (Counted N) (n * planeMost d L N) (walkPlanes Decoder d L n xs) l z
   unfolding walkPlanes then-plane
-  reads-planes zero xs h l = enough (record {
+  reads-planes zero xs h l z = enough (record {
     answer = (xs, 0);
     known = record { numbers = h; none-left = λ _. refl; some-left = λ e. absurd (let z : _≡_ {A = ℕ} 0 1 = cc in omega arith) };
     taken = [];
     rest = l;
     parts = refl;
     few = omega arith;
+    place = z;
     is = λ r. refl;
   })
-  reads-planes (suc p) xs h l = more (reads-then {J = p * planeMost d L N} (then-plane p) (walks-plane d L p xs .reads) (λ ys k. below ys (reads-planes p ys (k ∙ h))) stops .from l)
+  reads-planes (suc p) xs h l z = more (reads-then {J = p * planeMost d L N} (then-plane p) (walks-plane d L p xs .reads) (λ ys k l z. outcome-same (λ m. refl) (reads-planes p ys (k ∙ h) l 0)) stops .from l z)
     where
-      below : (ys : List ℤ) → ((l : List Bool) → Outcome (Counted N) (p * planeMost d L N) (walkPlanes Decoder d L p ys) l) → (l : List Bool) → Outcome (Counted N) (p * planeMost d L N) (then-plane p ys) l
-      below ys ih l = go (ih l)
-        where
-          go : Outcome (Counted N) (p * planeMost d L N) (walkPlanes Decoder d L p ys) l → Outcome (Counted N) (p * planeMost d L N) (then-plane p ys) l
-          go (enough E) = enough (record { answer = E .answer; known = E .known; taken = E .taken; rest = E .rest; parts = E .parts; few = E .few; is = E .is })
-          go (short g M) = short g (record { answer = M .answer; known = M .known; is = M .is })
-
-      stops : (ys : List ℤ) → length ys ≡ length xs → Missed (Counted N) (then-plane p ys) (tape [] true)
-      stops ys k = record {
+      stops : (ys : List ℤ) → length ys ≡ length xs → (z : ℕ) → Missed (Counted N) (then-plane p ys) (tape [] true z)
+      stops ys k z = record {
         answer = (ys, suc p);
         known = record { numbers = k ∙ h; none-left = λ e. absurd (let z : _≡_ {A = ℕ} 0 1 = cc in omega arith); some-left = λ _. omega arith };
+        place = z;
         is = refl;
       }
 
-      more : Outcome (Counted N) (setTests d + restTests d L + 2 * length xs + p * planeMost d L N) (walkPlanes Decoder d L (suc p) xs) l → Outcome (Counted N) (suc p * planeMost d L N) (walkPlanes Decoder d L (suc p) xs) l
+      more : Outcome (Counted N) (setTests d + restTests d L + 2 * length xs + p * planeMost d L N) (walkPlanes Decoder d L (suc p) xs) l z → Outcome (Counted N) (suc p * planeMost d L N) (walkPlanes Decoder d L (suc p) xs) l z
       more O = rw (let e : suc p * planeMost d L N ≡ setTests d + restTests d L + 2 * length xs + p * planeMost d L N = omega (arith, suc-mul p (planeMost d L N)) in e) O
 
 -- ---- decoding
@@ -252,25 +257,25 @@ module _ (k L n : ℕ) where
   abbrev most : ℕ
   most = mostRead k L n
 
-  outcome : (l : List Bool) → Outcome (Counted (4 ^ k)) most (walkPlanes Decoder d L n start) l
-  outcome l = reads-planes d L (4 ^ k) n start (length-replicate (4 ^ k) (pos 0)) l
+  outcome : (l : List Bool) → Outcome (Counted (4 ^ k)) most (walkPlanes Decoder d L n start) l 0
+  outcome l = reads-planes d L (4 ^ k) n start (length-replicate (4 ^ k) (pos 0)) l 0
 
-  pub decoded-as : (l : List Bool) {v : List ℤ × ℕ} {t : Tape} → walkPlanes Decoder d L n start (tape l false) ≡ (v, t)
-      → decodeOf k L n l ≡ record { numbers = v .0; unfinished = v .1; read = length l - length (t .left) }
+  pub decoded-as : (l : List Bool) {v : List ℤ × ℕ} {t : Tape} → walkPlanes Decoder d L n start (tape l false 0) ≡ (v, t)
+      → decodeOf k L n l ≡ record { numbers = v .0; unfinished = v .1; read = length l - length (t .left); place = t .place }
   unfolding decodeOf
-  decoded-as l e = ap {B = Settled} (λ r. record { numbers = r .0 .0; unfinished = r .0 .1; read = length l - length (r .1 .left) }) e
+  decoded-as l e = ap {B = Settled} (λ r. record { numbers = r .0 .0; unfinished = r .0 .1; read = length l - length (r .1 .left); place = r .1 .place }) e
 
-  decoded-enough : (l : List Bool) (E : Enough (Counted (4 ^ k)) most (walkPlanes Decoder d L n start) l) → decodeOf k L n l ≡ record { numbers = E .answer .0; unfinished = E .answer .1; read = length (E .taken) }
+  decoded-enough : (l : List Bool) (E : Enough (Counted (4 ^ k)) most (walkPlanes Decoder d L n start) l 0) → decodeOf k L n l ≡ record { numbers = E .answer .0; unfinished = E .answer .1; read = length (E .taken); place = E .place }
   decoded-enough l E =
       decoded-as l (enough-is E)
-      ∙ ap {B = Settled} (λ j. record { numbers = E .answer .0; unfinished = E .answer .1; read = j })
+      ∙ ap {B = Settled} (λ j. record { numbers = E .answer .0; unfinished = E .answer .1; read = j; place = E .place })
       (let e : length l - length (E .rest) ≡ length (E .taken) = omega (arith, ap length (E .parts), length-append (E .taken) (E .rest)) in e)
 
   -- All S² numbers are written.
   pub decoded-length : (l : List Bool) → length ((decodeOf k L n l) .numbers) ≡ 4 ^ k
   decoded-length l = go (outcome l)
     where
-      go : Outcome (Counted (4 ^ k)) most (walkPlanes Decoder d L n start) l → length ((decodeOf k L n l) .numbers) ≡ 4 ^ k
+      go : Outcome (Counted (4 ^ k)) most (walkPlanes Decoder d L n start) l 0 → length ((decodeOf k L n l) .numbers) ≡ 4 ^ k
       go (enough E) = rw (decoded-enough l E) (E .known .numbers)
       go (short h M) = rw (decoded-as l (M .is)) (M .known .numbers)
 
@@ -283,7 +288,7 @@ module _ (k L n : ℕ) where
   pub read-all : (l : List Bool) → 0 < (decodeOf k L n l) .unfinished → (decodeOf k L n l) .read ≡ length l
   read-all l = go (outcome l)
     where
-      go : Outcome (Counted (4 ^ k)) most (walkPlanes Decoder d L n start) l → 0 < (decodeOf k L n l) .unfinished → (decodeOf k L n l) .read ≡ length l
+      go : Outcome (Counted (4 ^ k)) most (walkPlanes Decoder d L n start) l 0 → 0 < (decodeOf k L n l) .unfinished → (decodeOf k L n l) .read ≡ length l
       go (enough E) h = absurd (omega (arith, E .known .none-left refl, ap (λ (s : Settled). s .unfinished) (decoded-enough l E)))
       go (short g M) h = rw (decoded-as l (M .is)) (omega arith)
 
@@ -291,7 +296,7 @@ module _ (k L n : ℕ) where
   pub read-none : (l r : List Bool) → (decodeOf k L n l) .unfinished ≡ 0 → decodeOf k L n (l ++ r) ≡ decodeOf k L n l
   read-none l r = go (outcome l)
     where
-      go : Outcome (Counted (4 ^ k)) most (walkPlanes Decoder d L n start) l → (decodeOf k L n l) .unfinished ≡ 0 → decodeOf k L n (l ++ r) ≡ decodeOf k L n l
+      go : Outcome (Counted (4 ^ k)) most (walkPlanes Decoder d L n start) l 0 → (decodeOf k L n l) .unfinished ≡ 0 → decodeOf k L n (l ++ r) ≡ decodeOf k L n l
       go (enough E) h = decoded-enough (l ++ r) (enough-more r E) ∙ sym (decoded-enough l E)
       go (short g M) h = absurd (omega (arith, M .known .some-left refl, ap (λ (s : Settled). s .unfinished) (decoded-as l (M .is))))
 
@@ -303,7 +308,7 @@ module _ (k L n : ℕ) where
       go true e = ap (decodeOf k L n) (sym (take-all K l (leb-true (length l) K e)))
       go false e = on (outcome (take K l))
         where
-          on : Outcome (Counted (4 ^ k)) most (walkPlanes Decoder d L n start) (take K l) → decodeOf k L n l ≡ decodeOf k L n (take K l)
+          on : Outcome (Counted (4 ^ k)) most (walkPlanes Decoder d L n start) (take K l) 0 → decodeOf k L n l ≡ decodeOf k L n (take K l)
           on (enough E) = ap (decodeOf k L n) (sym (take-append-drop K l)) ∙ decoded-enough (take K l ++ drop K l) (enough-more (drop K l) E) ∙ sym (decoded-enough (take K l) E)
           on (short g M) = absurd (omega (arith, g, h, length-take K l, leb-false (length l) K e))
 

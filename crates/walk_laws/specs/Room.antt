@@ -13,7 +13,7 @@ use lib.IntN.{ℤ, pos, natAbs}
 use lib.ListN.{length, take, drop, replicate}
 use Rattle.paper.specs.Sizes.{numbersIn, numberLimit, mostPlanes}
 use Rattle.paper.specs.Lists.{at}
-use Rattle.paper.specs.Walk.{negative, worth, Decoder, Tape, nextBit, isOne, testSet, refined, begun, walkNumber, walkNumbers, walkSet, walkRest, walkPlane, walkPlanes, depth, decodeOf, _next_}
+use Rattle.paper.specs.Walk.{negative, worth, Due, Decoder, Tape, behindPlane, nextBit, isOne, testSet, refined, begun, walkNumber, walkNumbers, walkSet, walkRest, walkPlane, walkPlanes, depth, decodeOf, _next_}
 use Rattle.walk_laws.specs.Cleared.{natAbs-signed}
 use Rattle.list_laws.specs.Parts.{fourth}
 use Rattle.walk_laws.specs.Asks.{number-known, number-asks, afterBit, opened}
@@ -84,12 +84,12 @@ module _ (p : ℕ) (low : p < mostPlanes) where
       begun-in (some s) = omega (arith, natAbs-signed s (2 ^ p), pow-mono low, pow-succ' 2 p)
 
       after : (o : Bool) (t : Tape) → Room p ((afterBit Decoder p x o t) .0)
-      after true t = (begun-in ((nextBit (t .left) (t .missed)) .0), tt)
+      after true t = (begun-in ((nextBit Due.sign (t .left) (t .missed) (t .place)) .0), tt)
       after false t = (same, tt)
 
       go : (t : Tape) (b : Bool) → leb (2 ^ suc p) (natAbs x) ≡ b → Room p ((walkNumber Decoder p x t) .0)
-      go t true e = rw (number-known Decoder p x e) (refined-in ((nextBit (t .left) (t .missed)) .0), tt)
-      go t false e = rw (number-asks Decoder p x e) (after (isOne Decoder ((nextBit (t .left) (t .missed)) .0)) ((nextBit (t .left) (t .missed)) .1))
+      go t true e = rw (number-known Decoder p x e) (refined-in ((nextBit Due.more (t .left) (t .missed) (t .place)) .0), tt)
+      go t false e = rw (number-asks Decoder p x e) (after (isOne Decoder ((nextBit (Due.test 1) (t .left) (t .missed) (t .place)) .0)) ((nextBit (Due.test 1) (t .left) (t .missed) (t .place)) .1))
 
   next-leaves : {f g : Decodes (List ℤ)} → Leaves p f → Leaves p g → Leaves p (_next_ Decoder f g)
   unfolding _next_
@@ -140,11 +140,11 @@ planes-in d L (suc p) xs t h w = go ((walkPlane Decoder d L p xs t) .1 .missed) 
     left = plane-leaves p h d L xs w .room t
 
     go : (m : Bool) → ((ys : List ℤ) (t : Tape) → Room p ys → numbersIn ((walkPlanes Decoder d L p ys t) .0 .0) ≡ true)
-        → numbersIn (((elim m as (λ _. Decodes (List ℤ × ℕ)) [ true ↦ Decoder .done ((walkPlane Decoder d L p xs t) .0, suc p) | false ↦ walkPlanes Decoder d L p ((walkPlane Decoder d L p xs t) .0) ]) ((walkPlane Decoder d L p xs t) .1)) .0 .0) ≡ true
+        → numbersIn (((elim m as (λ _. Decodes (List ℤ × ℕ)) [ true ↦ Decoder .done ((walkPlane Decoder d L p xs t) .0, suc p) | false ↦ walkPlanes Decoder d L p ((walkPlane Decoder d L p xs t) .0) ]) (behindPlane ((walkPlane Decoder d L p xs t) .1))) .0 .0) ≡ true
     go true ih = room-in p _ left
     go false ih = ih _ _ left
 
 -- Whatever the bits, what they decode to is within the limit.
 pub decoded-in : (k L n : ℕ) (l : List Bool) → n ≤ mostPlanes → numbersIn ((decodeOf k L n l) .numbers) ≡ true
 unfolding decodeOf
-decoded-in k L n l h = planes-in (depth k L) L n (replicate (4 ^ k) (pos 0)) (tape l false) h (room-zeros n (4 ^ k) h)
+decoded-in k L n l h = planes-in (depth k L) L n (replicate (4 ^ k) (pos 0)) (tape l false 0) h (room-zeros n (4 ^ k) h)

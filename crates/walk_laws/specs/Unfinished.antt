@@ -14,12 +14,14 @@ use lib.Seq.{take-at, take-append-add, drop-append-seam}
 use Rattle.paper.specs.Walk.{Decoder, walkPlanes, depth, decodeOf}
 use Rattle.walk_laws.specs.Together.{tape, Decodes}
 use Rattle.walk_laws.specs.Read.{Enough, enough-is, enough-more, Missed, Outcome, enough, short, Length, mostRead}
-use Rattle.walk_laws.specs.Down.{walkDown, count-most, none-left, reads-down, missed-is, goes-on}
+use Rattle.walk_laws.specs.Asks.{square-sized}
+use Rattle.walk_laws.specs.Undecided.{planes-dry}
+use Rattle.walk_laws.specs.Down.{walkDown, count-most, none-left, reads-down, missed-is, down-place, goes-on}
 
 -- ---- planes n - 1 down to q
 -- the numbers that they make of bits l, and the bits that they leave
 unfoldable pub planesOver : ℕ → ℕ → ℕ → ℕ → List Bool → List ℤ × List Bool
-planesOver k L n q l = let r = walkDown (depth k L) L q n (replicate (4 ^ k) (pos 0)) (tape l false) in (r .0, r .1 .left)
+planesOver k L n q l = let r = walkDown (depth k L) L q n (replicate (4 ^ k) (pos 0)) (tape l false 0) in (r .0, r .1 .left)
 
 -- Every bit of these planes has been read from l: of bits that stand behind l they take none.
 abbrev pub AllRead : ℕ → ℕ → ℕ → ℕ → List Bool → Type 0
@@ -56,26 +58,26 @@ module _ (k L n : ℕ) where
 
   -- the bits l have all that planes n - 1 to q take
   abbrev Has : ℕ → List Bool → Type 0
-  Has q l = Enough (Length (4 ^ k)) (mostRead k L n) (down q) l
+  Has q l = Enough (Length (4 ^ k)) (mostRead k L n) (down q) l 0
 
   -- they have, or a bit is missed
   abbrev HasOrNot : ℕ → List Bool → Type 0
-  HasOrNot q l = Outcome (Length (4 ^ k)) (mostRead k L n) (down q) l
+  HasOrNot q l = Outcome (Length (4 ^ k)) (mostRead k L n) (down q) l 0
 
   abbrev unfinished : List Bool → ℕ
   unfinished l = (decodeOf k L n l) .unfinished
 
   outcome : (q : ℕ) (l : List Bool) → HasOrNot q l
-  outcome q l = reads-down (depth k L) L (4 ^ k) q n start (length-replicate (4 ^ k) (pos 0)) .from l
+  outcome q l = reads-down (depth k L) L (4 ^ k) q n start (length-replicate (4 ^ k) (pos 0)) .from l 0
 
-  missed-more : (q : ℕ) (l : List Bool) → (down q (tape l false)) .1 .missed ≡ ltb q (unfinished l)
+  missed-more : (q : ℕ) (l : List Bool) → (down q (tape l false 0)) .1 .missed ≡ ltb q (unfinished l)
   unfolding decodeOf
   missed-more q l = missed-is (depth k L) L (4 ^ k) q n start (length-replicate (4 ^ k) (pos 0)) l
 
   has-finished : (q : ℕ) (l : List Bool) → Has q l → unfinished l ≤ q
   has-finished q l E = ltb-false q (unfinished l) (sym (missed-more q l) ∙ ap (λ r. r .1 .missed) (enough-is E))
 
-  short-unfinished : (q : ℕ) (l : List Bool) → Missed (Length (4 ^ k)) (down q) (tape l false) → q < unfinished l
+  short-unfinished : (q : ℕ) (l : List Bool) → Missed (Length (4 ^ k)) (down q) (tape l false 0) → q < unfinished l
   short-unfinished q l M = ltb-true q (unfinished l) (sym (missed-more q l) ∙ ap (λ r. r .1 .missed) (M .is))
 
   finished-has : (q : ℕ) (l : List Bool) → unfinished l ≤ q → Has q l
@@ -93,6 +95,11 @@ module _ (k L n : ℕ) where
       go (enough E) = E
       go (short g M) = absurd (omega arith)
 
+  has-place : (q : ℕ) (l : List Bool) (E : Has q l) → E .place ≡ 0
+  has-place q l E =
+      let none : (down q (tape l false 0)) .1 .missed ≡ false = ap (λ r. r .1 .missed) (enough-is E) in
+      ap (λ r. r .1 .place) (sym (enough-is E)) ∙ down-place (depth k L) L (4 ^ k) q n start (length-replicate (4 ^ k) (pos 0)) l none
+
   has-over : (q : ℕ) (l : List Bool) (E : Has q l) → planesOver k L n q l ≡ (E .answer, E .rest)
   unfolding planesOver
   has-over q l E = ap (λ r. (r .0, r .1 .left)) (enough-is E)
@@ -100,6 +107,10 @@ module _ (k L n : ℕ) where
   has-through : (q : ℕ) (l : List Bool) (E : Has q l) → bitsThrough k L n q l ≡ length (E .taken)
   unfolding bitsThrough
   has-through q l E = omega (arith, ap (λ r. length (r .1)) (has-over q l E), ap length (E .parts), length-append (E .taken) (E .rest))
+
+  -- they are the first ones
+  has-first : (q : ℕ) (m : List Bool) (E : Has q m) → take (bitsThrough k L n q m) m ≡ E .taken
+  has-first q m E = (λ i. take (has-through q m E i) (E .parts i)) ∙ take-at (E .taken) (E .rest) (length (E .taken)) refl
 
   has-same : (q : ℕ) (l : List Bool) → Has q l → (r : List Bool) → planesOver k L n q (l ++ r) ≡ ((planesOver k L n q l) .0, (planesOver k L n q l) .1 ++ r)
   has-same q l E r = has-over q (l ++ r) (enough-more r E) ∙ ap (λ s. (s .0, s .1 ++ r)) (sym (has-over q l E))
@@ -120,6 +131,7 @@ module _ (k L n : ℕ) where
         rest = take (b - c) (E .rest);
         parts = (λ i. take (let e : b ≡ c + (b - c) = omega arith in e i) (E .parts i)) ∙ take-append-add (E .taken) (E .rest) (b - c);
         few = E .few;
+        place = E .place;
         is = E .is;
       }
 
@@ -130,13 +142,20 @@ module _ (k L n : ℕ) where
           absurd (omega (arith, same, has-through q m E, leb-false c b e, ap length (D .parts), length-append (D .taken) (D .rest), length-take b m))
       go false e (short g M) = lt-leb (unfinished (take b m)) q (short-unfinished q (take b m) M)
 
-  -- after the last bit of these planes
+  -- after the last bit of these planes the others have none
+  has-others : (q : ℕ) (m : List Bool) → q ≤ n → (E : Has q m) → walkPlanes Decoder (depth k L) L n start (tape (E .taken) false 0) ≡ walkPlanes Decoder (depth k L) L q (E .answer) (tape [] false 0)
+  has-others q m h E =
+      let s : down q (tape (E .taken) false 0) ≡ (E .answer, tape [] false 0) = ap (λ l. down q (tape l false 0)) (sym (append-nil (E .taken))) ∙ E .is []
+      ∙ ap (λ z. (E .answer, tape [] false z)) (has-place q m E) in
+      goes-on (depth k L) L (4 ^ k) q n start (length-replicate (4 ^ k) (pos 0)) (E .taken) h (ap (λ r. r .1 .missed) s) ∙ ap (λ r. walkPlanes Decoder (depth k L) L q (r .0) (r .1)) s
+
   has-last : (q : ℕ) (m : List Bool) → q ≤ n → (E : Has q m) → unfinished (E .taken) ≡ q
   unfolding decodeOf
-  has-last q m h E =
-      let s : down q (tape (E .taken) false) ≡ (E .answer, tape [] false) = ap (λ l. down q (tape l false)) (sym (append-nil (E .taken))) ∙ E .is [] in
-      ap (λ r. r .0 .1) (goes-on (depth k L) L (4 ^ k) q n start (length-replicate (4 ^ k) (pos 0)) (E .taken) h (ap (λ r. r .1 .missed) s) ∙ ap (λ r. walkPlanes Decoder (depth k L) L q (r .0) (r .1)) s)
-      ∙ none-left (depth k L) L q (E .answer) (omega (arith, E .known, pow-le-pow-right {n = 4} (omega arith) {i = 0} {j = k} (omega arith)))
+  has-last q m h E = ap (λ r. r .0 .1) (has-others q m h E) ∙ none-left (depth k L) L q (E .answer) (omega (arith, E .known, pow-le-pow-right {n = 4} (omega arith) {i = 0} {j = k} (omega arith)))
+
+  has-none : L < k → (q : ℕ) (m : List Bool) → q ≤ n → (E : Has q m) → (decodeOf k L n (E .taken)) .place ≡ 0
+  unfolding decodeOf
+  has-none levels q m h E = ap (λ r. r .1 .place) (has-others q m h E) ∙ planes-dry (depth k L) L q (E .answer) (square-sized k L (E .answer) levels (E .known)) .1
 
   -- ---- any bits
   -- Bits as many as decoding can read have every bit of every plane: so any bits are a first part of such bits.
@@ -158,14 +177,6 @@ module _ (k L n : ℕ) where
   pub read-same : (q : ℕ) (l : List Bool) → AllRead k L n q l → (r : List Bool) → planesOver k L n q (l ++ r) ≡ ((planesOver k L n q l) .0, (planesOver k L n q l) .1 ++ r)
   read-same q l a = has-same q l (finished-has q l (read-finished q l a))
 
-  -- With what these planes come to, and the bits that they leave, the decoding goes on to planes q - 1 to 0.
-  pub read-on : (q : ℕ) (l : List Bool) → q ≤ n → AllRead k L n q l
-      → walkPlanes Decoder (depth k L) L n start (tape l false) ≡ walkPlanes Decoder (depth k L) L q ((planesOver k L n q l) .0) (tape ((planesOver k L n q l) .1) false)
-  read-on q l h a =
-      let E = finished-has q l (read-finished q l a) in
-      goes-on (depth k L) L (4 ^ k) q n start (length-replicate (4 ^ k) (pos 0)) l h (ap (λ r. r .1 .missed) (enough-is E))
-      ∙ ap (λ r. walkPlanes Decoder (depth k L) L q (r .0) (r .1)) (enough-is E) ∙ ap (λ r. walkPlanes Decoder (depth k L) L q (r .0) (tape (r .1) false)) (sym (has-over q l E))
-
   -- The bits that they take are the first ones.
   pub through-first : (q : ℕ) (m : List Bool) → AllRead k L n q m → (planesOver k L n q m) .1 ≡ drop (bitsThrough k L n q m) m
   through-first q m a =
@@ -185,9 +196,11 @@ module _ (k L n : ℕ) where
 
   -- After the last bit of plane q exactly q planes are unfinished, and one bit before it q + 1.
   pub last-bit-any : (q : ℕ) (m : List Bool) → q ≤ n → AllRead k L n q m → unfinished (take (bitsThrough k L n q m) m) ≡ q
-  last-bit-any q m h a =
-      let E = finished-has q m (read-finished q m a) in
-      ap unfinished ((λ i. take (has-through q m E i) (E .parts i)) ∙ take-at (E .taken) (E .rest) (length (E .taken)) refl) ∙ has-last q m h E
+  last-bit-any q m h a = let E = finished-has q m (read-finished q m a) in ap unfinished (has-first q m E) ∙ has-last q m h E
+
+  -- Then nothing of the next plane is settled.
+  pub last-bit-place : L < k → (q : ℕ) (m : List Bool) → q ≤ n → AllRead k L n q m → (decodeOf k L n (take (bitsThrough k L n q m) m)) .place ≡ 0
+  last-bit-place levels q m h a = let E = finished-has q m (read-finished q m a) in ap (λ l. (decodeOf k L n l) .place) (has-first q m E) ∙ has-none levels q m h E
 
   pub before-last-bit-any : (q : ℕ) (m : List Bool) → q < n → AllRead k L n q m → unfinished (take (bitsThrough k L n q m - 1) m) ≡ suc q
   before-last-bit-any q m h a =
@@ -207,4 +220,4 @@ module _ (k L n : ℕ) where
   unfinished-true l r a =
       let whole : (q : ℕ) → AllRead k L n q (l ++ r) = λ q. finished-read q (l ++ r) (omega (arith, read-finished 0 (l ++ r) a)) in
       let e : countBelow n (leb (unfinished l)) ≡ planesRead k L n (l ++ r) (length l) = λ i. countBelow n (λ q. first-part q l r (whole q) i) in
-      omega (arith, e, count-from (unfinished l) n, count-most (depth k L) L n start (tape l false))
+      omega (arith, e, count-from (unfinished l) n, count-most (depth k L) L n start (tape l false 0))

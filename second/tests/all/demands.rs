@@ -72,11 +72,18 @@ fn no_coding_passes_its_bound() {
     }
 }
 
-/// What demand 3 says of numbers after a cut that leaves p planes unfinished.
-fn check_numbers(truth: &[i32], numbers: &[i32], unfinished: u32) {
-    for (truth, number) in truth.iter().zip(numbers) {
+/// What demand 3 says of numbers after a cut that leaves p planes unfinished. The
+/// numbers before the place where it fell have the bit of the running plane too,
+/// so that at most p - 1 of theirs are unread.
+fn check_numbers(truth: &[i32], numbers: &[i32], unfinished: u32, place: usize) {
+    for (z, (truth, number)) in truth.iter().zip(numbers).enumerate() {
+        let unread = if z < place {
+            unfinished - 1
+        } else {
+            unfinished
+        };
         assert!(number.abs() <= truth.abs());
-        assert!(truth.abs() - number.abs() < 1 << unfinished);
+        assert!(truth.abs() - number.abs() < 1 << unread);
         assert!(*number == 0 || number.signum() == truth.signum());
     }
 }
@@ -113,7 +120,9 @@ fn check_cuts(sizes: Sizes, truth: &[i32], cuts: &[u64], mut also: impl FnMut(&[
         assert_eq!(numbers, settled);
         assert_eq!(decoded.unfinished, unfinished);
         assert_eq!(decoded.bits_read, *count);
-        check_numbers(truth, &numbers, unfinished);
+        let place = list.place(*count as usize);
+        assert_eq!(decoded.place.0, place);
+        check_numbers(truth, &numbers, unfinished, place);
         check_no_number_moves_away(truth, &sooner, &numbers);
         also(&numbers, unfinished);
         sooner = numbers;

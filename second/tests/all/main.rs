@@ -2,6 +2,7 @@
 
 mod by_hand;
 mod corners;
+mod cut_place;
 mod demands;
 mod editions;
 mod formulations;

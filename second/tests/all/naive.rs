@@ -191,9 +191,20 @@ fn largest(numbers: &[i32], step: Step) -> Option<i32> {
     tested.iter().map(|number| number.abs()).max()
 }
 
-/// One bit of a coding, its plane, and the number it settles.
+/// Where the places of a step begin.
+fn start_of(step: Step) -> usize {
+    match step {
+        Step::Set { start, .. } => start,
+        Step::Rest { q } => q,
+        Step::Number { place } => place,
+    }
+}
+
+/// One bit of a coding, its plane, where the places begin that it speaks of, and
+/// the number it settles.
 pub struct CodedBit {
     pub plane: u32,
+    pub place: usize,
     pub bit: bool,
     pub settles: Option<(usize, i32)>,
 }
@@ -214,9 +225,10 @@ pub fn coding(k: u32, levels: u32, numbers: &[i32]) -> Coding {
     let (mut bits, mut tests) = (Vec::new(), Vec::new());
     for plane in (0..planes).rev() {
         let t = 1 << plane;
-        let mut put = |bit, settles| {
+        let mut put = |step, bit, settles| {
             bits.push(CodedBit {
                 plane,
+                place: start_of(step),
                 bit,
                 settles,
             })
@@ -229,17 +241,17 @@ pub fn coding(k: u32, levels: u32, numbers: &[i32]) -> Coding {
                 let magnitude = number.abs();
                 let settled = number.signum() * (magnitude / t * t);
                 if magnitude >= 2 * t {
-                    put(magnitude / t % 2 == 1, Some((place, settled)));
+                    put(step, magnitude / t % 2 == 1, Some((place, settled)));
                 } else if magnitude >= t {
-                    put(true, None);
-                    put(number < 0, Some((place, settled)));
+                    put(step, true, None);
+                    put(step, number < 0, Some((place, settled)));
                 } else {
-                    put(false, None);
+                    put(step, false, None);
                 }
             } else if let Some(most) = largest(numbers, step) {
                 tests_here += 1;
                 if most < 2 * t {
-                    put(most >= t, None);
+                    put(step, most >= t, None);
                 }
                 if most >= t {
                     steps.extend(opened(step));
@@ -265,10 +277,24 @@ impl Coding {
         let unread = self.bits[count..].iter().map(|bit| bit.plane + 1);
         (numbers, unread.max().unwrap_or(0))
     }
+
+    /// Where a cut to `count` bits falls: the walk goes through the places in
+    /// their order, so it is where the next bit's places begin.
+    pub fn place(&self, count: usize) -> usize {
+        self.bits.get(count).map_or(0, |next| next.place)
+    }
 }
 
-/// The numbers, the unfinished planes, and the bits read.
-pub fn decoding(k: u32, levels: u32, planes: u32, bits: &[bool]) -> (Vec<i32>, u32, usize) {
+/// What a decoding gives: the numbers, the unfinished planes, the bits read, and
+/// where the places begin of the step that lacks a bit.
+pub struct Decoding {
+    pub numbers: Vec<i32>,
+    pub unfinished: u32,
+    pub read: usize,
+    pub place: usize,
+}
+
+pub fn decoding(k: u32, levels: u32, planes: u32, bits: &[bool]) -> Decoding {
     let mut numbers = vec![0_i32; 1 << (2 * k)];
     let mut read = 0;
     for plane in (0..planes).rev() {
@@ -283,7 +309,12 @@ pub fn decoding(k: u32, levels: u32, planes: u32, bits: &[bool]) -> (Vec<i32>, u
                     1
                 };
                 if read + wanted > bits.len() {
-                    return (numbers, plane + 1, bits.len());
+                    return Decoding {
+                        numbers,
+                        unfinished: plane + 1,
+                        read: bits.len(),
+                        place,
+                    };
                 }
                 let negative = if known {
                     numbers[place] < 0
@@ -301,7 +332,12 @@ pub fn decoding(k: u32, levels: u32, planes: u32, bits: &[bool]) -> (Vec<i32>, u
                     read += 1;
                     bits[read - 1]
                 } else {
-                    return (numbers, plane + 1, read);
+                    return Decoding {
+                        numbers,
+                        unfinished: plane + 1,
+                        read,
+                        place: start_of(step),
+                    };
                 };
                 if open {
                     steps.extend(opened(step));
@@ -309,7 +345,12 @@ pub fn decoding(k: u32, levels: u32, planes: u32, bits: &[bool]) -> (Vec<i32>, u
             }
         }
     }
-    (numbers, 0, read)
+    Decoding {
+        numbers,
+        unfinished: 0,
+        read,
+        place: 0,
+    }
 }
 
 // --- Bits and blocks ---
@@ -601,16 +642,22 @@ pub fn answer(request: &Request) -> Answer {
             conditions.push((5, *planes > 18));
             conditions.push((6, u128::from(*count) > 8 * bytes.len() as u128));
             let refusal = lowest(&conditions);
-            let (numbers, unfinished, read) = if refusal == 0 {
+            let decoding = if refusal == 0 {
                 decoding(*k, *levels, *planes, &bits_of(bytes, *count as usize))
             } else {
-                (lent_numbers(*numbers), 0, 0)
+                Decoding {
+                    numbers: lent_numbers(*numbers),
+                    unfinished: 0,
+                    read: 0,
+                    place: 0,
+                }
             };
             vec![
                 ("refusal", Field::Small(refusal)),
-                ("unfinished", Field::Small(unfinished)),
-                ("bits read", Field::Large(read as u64)),
-                ("numbers", Field::Numbers(numbers)),
+                ("unfinished", Field::Small(decoding.unfinished)),
+                ("bits read", Field::Large(decoding.read as u64)),
+                ("place", Field::Large(decoding.place as u64)),
+                ("numbers", Field::Numbers(decoding.numbers)),
             ]
         }
         Request::Inverse {

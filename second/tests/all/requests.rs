@@ -352,6 +352,27 @@ fn a_difference_is_said_in_the_fields_own_numbers() {
     );
 }
 
+/// P3 cut to 9 bits: the place is shown, and another in its stead is named.
+#[test]
+fn another_place_is_seen() {
+    let request = Request::Decoding {
+        k: 3,
+        levels: 2,
+        planes: 3,
+        numbers: 64,
+        bytes: vec![0xC0, 0x08],
+        count: 9,
+    };
+    let line = show::line(&request);
+    assert!(line.ends_with("=> refusal 0, unfinished 2, bits read 9, place 2"));
+    let right = answers(from_ref(&request));
+    let mut wrong = right.clone();
+    wrong[16] = 1;
+    let report = format!("case 0: {}\n  place: 2 against 1", line);
+    let different = Outcome::Different { report };
+    assert_eq!(compared(from_ref(&request), &right, &wrong), different);
+}
+
 #[test]
 fn files_that_end_early_or_late_differ() {
     let requests = cases_of(&ALL_JOBS, 3, 5);

@@ -72,6 +72,26 @@ fn a_plane_is_finished_at_its_own_last_bit() {
     }
 }
 
+/// What comes of the slips of a place that look reasonable, at side 8 and two
+/// levels, with the right answer beside each.
+#[test]
+fn slips_of_a_place_are_seen() {
+    let sizes = sizes(3, 2);
+    let bits = samples::coding(sizes, &steps::one_number(sizes, 15, -3));
+    let place = |count| steps::decode(sizes, &bits, count).1.place.0;
+    // An open test taken to settle: the rest from 4 would give 64, or the set
+    // from 12 would give 16.
+    assert_eq!((place(2), place(5)), (4, 12));
+    // A 1 without its sign taken to settle its number: 16.
+    assert_eq!(place(9), 15);
+    // A plane taken for running until a bit of the next arrives: 64.
+    assert_eq!((place(11), place(19)), (0, 0));
+    // The last place settled, not the lowest that isn't: 3.
+    assert_eq!(place(1), 4);
+    // Bits counted for places: 8 of 15.
+    assert_eq!(place(8), 15);
+}
+
 #[test]
 fn a_label_is_no_number() {
     let mut room = [0; 512];

@@ -42,6 +42,9 @@ fn journey() -> Result<u8, Refusal> {
         if (settled.unfinished == 0) != (count == blocks) || kept.edition != EDITION {
             return Ok(3);
         }
+        if settled.place >= PLACES || (settled.unfinished == 0 && settled.place != 0) {
+            return Ok(6);
+        }
         if picture
             .iter()
             .zip(&shown)

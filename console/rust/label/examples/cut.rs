@@ -1,6 +1,6 @@
 //! A picture into a record, and what each first part of the record is worth: `cargo run --example cut`.
 
-use label::{Edition, Refusal, BLOCK_BYTES, MOST_PLANES, PAYLOAD_BYTES};
+use label::{Edition, Refusal, Settled, BLOCK_BYTES, MOST_PLANES, PAYLOAD_BYTES};
 
 const K: u32 = 6; // side 64
 const L: u32 = 2;
@@ -32,15 +32,15 @@ fn record_of(picture: &[u8], room: &mut [u8]) -> Result<usize, Refusal> {
     label::write(K, L, coded.n, EDITION, LABEL, &bytes, coded.bits, room)
 }
 
-/// What a record shows: the planes that are unfinished, of how many, and how far off a grey can be.
-fn shown(record: &[u8], picture: &mut [u8]) -> Result<(u32, u32, u8), Refusal> {
+/// What a record shows: what its bits settle, of how many planes, and how far off a grey can be.
+fn shown(record: &[u8], picture: &mut [u8]) -> Result<(Settled, u32, u8), Refusal> {
     let mut payload = [0; BLOCKS * PAYLOAD_BYTES];
     let (mut numbers, mut room) = ([0; PLACES], [0; PLACES]);
     let kept = label::read(record, LABEL, &mut payload)?;
     let settled = label::decode(kept.k, kept.levels, kept.n, &mut numbers, &payload, kept.bits)?;
     label::inverse(kept.k, kept.levels, &numbers, picture, &mut room)?;
     let limit = label::grey_limit(kept.levels, settled.unfinished);
-    Ok((settled.unfinished, kept.n, limit))
+    Ok((settled, kept.n, limit))
 }
 
 fn main() -> Result<(), Refusal> {
@@ -49,16 +49,20 @@ fn main() -> Result<(), Refusal> {
     let blocks = record_of(&picture, &mut record)?;
     for count in 1..=blocks {
         let mut cut = [0; PLACES];
-        let (unfinished, n, limit) = shown(&record[..count * BLOCK_BYTES], &mut cut)?;
+        let (settled, n, limit) = shown(&record[..count * BLOCK_BYTES], &mut cut)?;
         let off = picture
             .iter()
             .zip(&cut)
             .map(|(grey, shown)| grey.abs_diff(*shown))
             .max();
         println!(
-            "{count} of {blocks} blocks: {unfinished} of {n} planes unfinished, greys off by {}, promised {limit}",
+            "{count} of {blocks} blocks: {} of {n} planes unfinished, greys off by {}, promised {limit}",
+            settled.unfinished,
             off.unwrap_or(0)
         );
+        if settled.unfinished > 0 {
+            println!("  the cut fell at place {} of {PLACES}", settled.place);
+        }
     }
     match label::read(&record, b"00000418", &mut [0; BLOCKS * PAYLOAD_BYTES]) {
         Err(refusal) => println!("asked for 00000418: {refusal} ({})", refusal.number()),

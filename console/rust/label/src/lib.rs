@@ -52,9 +52,10 @@
 //! # What a cut picture is worth
 //! With p planes unfinished no wavelet number's magnitude is above the true one, none is short by more than 2^p - 1,
 //! none that isn't zero has the wrong sign, and no grey is off by more than [`grey_limit`]. With p = 0 it is the very
-//! picture. A thumbnail of r halvings is, with p = 0, the low band that r levels leave of the picture, plus 128 and set
-//! into 0 to 255; else no grey is further from that than `grey_limit(levels - halvings, unfinished)`. All that is about
-//! bits of one coding: blocks of two shots under one label with the same k, L and n fit together unnoticed in edition 1,
+//! picture. The numbers before [`Settled::place`], where the cut fell, have a plane more and are short by at most
+//! 2^(p - 1) - 1. A thumbnail of r halvings is, with p = 0, the low band that r levels leave of the picture, plus 128
+//! and set into 0 to 255; else no grey is further from that than `grey_limit(levels - halvings, unfinished)`. All that is
+//! about bits of one coding: blocks of two shots under one label with the same k, L and n fit together unnoticed in edition 1,
 //! and in edition 2 only if arm and mount number are the same too; what they show was never shot.
 //!
 //! # Linking
@@ -102,6 +103,10 @@ pub struct Settled {
     pub unfinished: u32,
     /// The bits read; those behind them, if any, say nothing.
     pub read: usize,
+    /// Where the cut fell: the lowest place, in Z order, that is not yet settled in the plane that is running. It is below
+    /// [`places`], and 0 where no plane is running or none of it is settled. The numbers before it are short by at most
+    /// 2^(p - 1) - 1, the others by at most 2^p - 1.
+    pub place: usize,
 }
 
 /// What [`read`] kept.
@@ -160,7 +165,10 @@ pub fn code(k: u32, levels: u32, numbers: &[i32], limit: usize, bytes: &mut [u8]
 }
 
 /// Bits to wavelet numbers: writes all S x S numbers, those that the first `b` bits settle and 0 elsewhere, whatever
-/// the slice held.
+/// the slice held. Gives the planes that are not finished, the bits read, and the place where the cut fell.
+///
+/// Of the plane that is running, a closed set or a closed rest settles all its places, an open one none, and a 1 whose
+/// sign is missing does not settle its number.
 ///
 /// # Errors
 /// [`Side`](Refusal::Side), [`Levels`](Refusal::Levels), [`Length`](Refusal::Length), [`Planes`](Refusal::Planes),
@@ -171,6 +179,9 @@ pub fn code(k: u32, levels: u32, numbers: &[i32], limit: usize, bytes: &mut [u8]
 /// let mut numbers = [9; 64];
 /// let settled = label::decode(3, 2, 3, &mut numbers, &bytes, 7).unwrap();
 /// assert_eq!((settled.unfinished, numbers[0]), (2, 4)); // of 5, with 7 of 17 bits
+/// assert_eq!(settled.place, 0); // one plane is finished, and none of the next is settled
+/// let settled = label::decode(3, 2, 3, &mut numbers, &bytes, 10).unwrap();
+/// assert_eq!((settled.unfinished, settled.place), (2, 3)); // three numbers of the next are
 /// assert_eq!(label::decode(3, 2, 3, &mut numbers, &bytes, 25), Err(label::Refusal::Room));
 /// ```
 pub fn decode(k: u32, levels: u32, n: u32, numbers: &mut [i32], bytes: &[u8], b: usize) -> Result<Settled, Refusal> {

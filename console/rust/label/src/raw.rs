@@ -43,6 +43,8 @@ pub struct Settled {
     pub unfinished: u32,
     /// The bits read.
     pub read: usize,
+    /// The lowest Z place not yet settled in the plane that is running; 0 where none is running or none of it is settled.
+    pub place: usize,
 }
 
 /// What [`write()`] answers.
@@ -111,7 +113,7 @@ impl Written {
 }
 
 impl Settled {
-    /// The unfinished planes and the bits read, or the refusal by name.
+    /// The unfinished planes, the bits read and the place where the cut fell, or the refusal by name.
     ///
     /// # Errors
     /// The refusal, where its number is not 0.
@@ -119,6 +121,7 @@ impl Settled {
         let settled = crate::Settled {
             unfinished: self.unfinished,
             read: self.read,
+            place: self.place,
         };
         judged(self.refusal, settled)
     }

@@ -2,15 +2,19 @@
 
 mod pictures;
 
-use label::{Edition, Refusal, BLOCK_BYTES, PAYLOAD_BYTES};
+use label::{Edition, Refusal, Settled, BLOCK_BYTES, PAYLOAD_BYTES};
 use pictures::{arm_block, coding, low_bands, media_block, pictures, record, set, sizes};
 use pictures::{Chance, Low, BY_ARM_2, EDITIONS, LABEL, MEDIA};
 
-/// What decoded numbers and greys are worth against the true ones, with p planes unfinished.
-fn as_good_as_promised(levels: u32, unfinished: u32, numbers: &[i32], truth: &[i32], shown: &[u8], picture: &[u8]) {
-    for (number, truth) in numbers.iter().zip(truth) {
+/// What decoded numbers and greys are worth against the true ones, with p planes unfinished: of the numbers before the
+/// place where the cut fell, one plane less is unread.
+fn as_good_as_promised(levels: u32, settled: Settled, numbers: &[i32], truth: &[i32], shown: &[u8], picture: &[u8]) {
+    let Settled { unfinished, place, .. } = settled;
+    assert!(place < numbers.len() && (unfinished > 0 || place == 0), "no place");
+    for (z, (number, truth)) in numbers.iter().zip(truth).enumerate() {
+        let unread = unfinished - u32::from(z < place);
         assert!(number.abs() <= truth.abs(), "a number above the true one");
-        assert!(truth.abs() - number.abs() < 1 << unfinished, "a number too short");
+        assert!(truth.abs() - number.abs() < 1 << unread, "a number too short");
         assert!(*number == 0 || (*number < 0) == (*truth < 0), "a wrong sign");
     }
     let limit = label::grey_limit(levels, unfinished);
@@ -70,7 +74,7 @@ fn there_and_back() {
             numbers.fill(-5);
             shown.fill(1);
             let settled = label::decode(k, levels, coding.n, &mut numbers, &payload, coding.bits).expect("its bits");
-            assert_eq!((settled.unfinished, settled.read), (0, coding.bits));
+            assert_eq!((settled.unfinished, settled.read, settled.place), (0, coding.bits, 0));
             assert_eq!(numbers, coding.numbers);
             label::inverse(k, levels, &numbers, &mut shown, &mut room).expect("what was settled");
             assert_eq!(shown, picture, "the very picture, k {k}, {levels} levels");
@@ -89,7 +93,7 @@ fn cut_records(edition: Edition, below: u32) {
             let record = record(k, levels, edition, &coding);
             let blocks = record.len() / BLOCK_BYTES;
             let bands = low_bands(k, levels, &picture);
-            let mut last = 18;
+            let mut last = (18, 0);
             // a cut within a block is worth as much as one at its front
             for length in (1..=blocks).map(|count| (count * BLOCK_BYTES + count * 7 % 512).min(record.len())) {
                 let count = length / BLOCK_BYTES;
@@ -106,10 +110,14 @@ fn cut_records(edition: Edition, below: u32) {
                 let (mut numbers, mut shown, mut room) = (vec![9; places], vec![9; places], vec![9; places]);
                 let settled = label::decode(k, levels, kept.n, &mut numbers, &payload, kept.bits).expect("bits");
                 label::inverse(k, levels, &numbers, &mut shown, &mut room).expect("numbers");
-                as_good_as_promised(levels, settled.unfinished, &numbers, &coding.numbers, &shown, &picture);
-                assert!(settled.unfinished <= last, "more blocks, and more planes unfinished");
+                as_good_as_promised(levels, settled, &numbers, &coding.numbers, &shown, &picture);
+                let (p, place) = last;
+                assert!(
+                    settled.unfinished < p || settled.unfinished == p && settled.place >= place,
+                    "more blocks, and more planes unfinished, or less of the one that is running"
+                );
                 assert_eq!(settled.unfinished == 0, count == blocks);
-                last = settled.unfinished;
+                last = (settled.unfinished, settled.place);
                 cut += usize::from(count < blocks);
                 unlike += usize::from(shown != picture);
                 thumbnails += thumbnails_as_promised(k, settled.unfinished, &numbers, &bands);
@@ -158,11 +166,24 @@ fn a_coding_cut_at_any_bit_keeps_its_promise() {
                 let (mut numbers, mut shown, mut work) = (vec![9; places], vec![9; places], vec![9; places]);
                 let settled = label::decode(k, levels, cut.n, &mut numbers, &bytes, limit).expect("bits");
                 label::inverse(k, levels, &numbers, &mut shown, &mut work).expect("numbers");
-                as_good_as_promised(levels, settled.unfinished, &numbers, &coding.numbers, &shown, &picture);
+                as_good_as_promised(levels, settled, &numbers, &coding.numbers, &shown, &picture);
                 thumbnails_as_promised(k, settled.unfinished, &numbers, &bands);
             }
         }
     }
+}
+
+/// The numbers 5, 0, 0, .. 0, of side 8 and two levels, cut at each of their bits.
+#[test]
+fn the_places_of_the_format_page() {
+    let bytes = [0xC0, 0x08, 0x00];
+    let settled = |b| label::decode(3, 2, 3, &mut [9; 64], &bytes, b).expect("17 bits");
+    let places: Vec<usize> = (0..=17).map(|b| settled(b).place).collect();
+    assert_eq!(places, [0, 0, 0, 1, 2, 3, 4, 0, 1, 2, 3, 4, 0, 1, 2, 3, 4, 0]);
+    let unfinished: Vec<u32> = (0..=17).map(|b| settled(b).unfinished).collect();
+    assert_eq!(unfinished, [3, 3, 3, 3, 3, 3, 3, 2, 2, 2, 2, 2, 1, 1, 1, 1, 1, 0]);
+    // bits beyond the last plane are not read, and no plane is running
+    assert_eq!((settled(24).read, settled(24).place), (17, 0));
 }
 
 #[test]
@@ -204,8 +225,13 @@ fn a_label_with_a_media_type() {
     assert_eq!((kept.blocks, kept.bits, kept.ended), (1, 17, None));
     assert_eq!(payload[..3], [0xC0, 0x08, 0x00]);
     let mut settled = [9; 64];
-    let unfinished = label::decode(3, 2, 3, &mut settled, &payload, 17).map(|settled| settled.unfinished);
-    assert_eq!((unfinished, settled), (Ok(0), numbers));
+    let whole = Settled {
+        unfinished: 0,
+        read: 17,
+        place: 0,
+    };
+    assert_eq!(label::decode(3, 2, 3, &mut settled, &payload, 17), Ok(whole));
+    assert_eq!(settled, numbers);
     // neither another label, nor the same in small letters
     assert_eq!(label::read(&block, b"0417AAL5", &mut payload), Err(Refusal::Turn));
     assert_eq!(label::read(&block, b"0417aal6", &mut payload), Err(Refusal::Label));

@@ -533,7 +533,8 @@ fn slices_of_length_0() {
         settled,
         Ok(label::Settled {
             unfinished: 18,
-            read: 0
+            read: 0,
+            place: 0
         })
     );
     assert_eq!(numbers, [0; 64]);
@@ -588,8 +589,17 @@ fn plain_answers() {
         refusal: 5,
         unfinished: 0,
         read: 0,
+        place: 0,
     };
-    assert_eq!(raw::decode(3, 2, 19, &mut [0; 64], &[], 0), refused);
+    assert_eq!(raw::decode(3, 2, 19, &mut [0; 64], &[0xC0; 2], 9), refused);
+    let settled = raw::Settled {
+        refusal: 0,
+        unfinished: 2,
+        read: 9,
+        place: 2,
+    };
+    assert_eq!(raw::decode(3, 2, 3, &mut [0; 64], &[0xC0, 0x08], 9), settled);
+    assert_eq!(settled.result(), label::decode(3, 2, 3, &mut [0; 64], &[0xC0, 0x08], 9));
     assert_eq!(raw::inverse(3, 2, &[i32::MIN; 64], &mut [0; 64], &mut [0; 64]), 4);
     assert_eq!(raw::thumbnail(3, 2, 0, &[i32::MIN; 64], &mut [], &mut []), 13);
     assert_eq!(raw::thumbnail(3, 2, 1, &[0; 64], &mut [0; 16], &mut [0; 16]), 0);

@@ -1,6 +1,5 @@
 -- The measure is the length of the rest: what is behind three sets is shorter.
-use Prim.Native.Nat.{suc}
-use Prim.Native.Nat.{ℕ, _<_}
+use Prim.Native.Nat.{ℕ, suc, _+_, _*_, _-_, _<_}
 use native.Mathlib.Omega.{arith}
 use lib.ListN.{length}
 use borrow.Author.Needs.{needs}
@@ -8,8 +7,9 @@ use borrow.Author.Tests.{not-true, not-false}
 use borrow.Fn.Kinds.{In}
 use borrow.Fn.PlainCycle.{Measures, is, falls, and}
 use Rattle.list_laws.specs.Parts.{cut1-long, part2-long, part3-long, part4-long, after3-long, after4-long}
-use Rattle.set_decoder.proofs.Run.{decoder, done, reached}
-use Rattle.set_decoder.proofs.Set.{room1, room2, room3, room4}
+use Rattle.set_decoder.specs.Walked.{Source}
+use Rattle.set_decoder.proofs.Run.{decoder, done, fewer, inside}
+use Rattle.set_decoder.proofs.Set.{room1, room2, room3, room4, next-set}
 use Rattle.set_decoder.proofs.read_set.Reads as read-set-reads
 use Rattle.set_decoder.proofs.read_test.Reads as read-test-reads
 use Rattle.shapes.proofs.Cuts.{onward, behind-shorter, part-set, rest-behind}
@@ -45,24 +45,24 @@ module _ (t : ℕ) where
   same-length c = search needs
 
   returns-2 : read-rest-lts.Need-returns-2 claims at read-rest.Post
-  returns-2 c = let S = c .before .before .before .before .before .before in rest-closed (decoder _ _) _ _ (c .before .before .read-test .ensures) (onward _ _ (S .pre .1 .1 .1 .1) (c .before .before .before .before .if1 .left)) (not-true _ (c .if2 .taken))
+  returns-2 c = let S = c .before .before .before .before .before .before .before in rest-closed (decoder _ _) _ _ (c .before .before .before .read-test .ensures) (onward _ _ (S .pre .1 .1 .1 .1) (c .before .before .before .before .before .if1 .left)) (not-true _ (c .if2 .taken))
 
   add-q2 : read-rest-lts.Need-add-q2 claims at read-rest.Post
   add-q2 c =
-      let S = c .before .before .before .before .before .before in
-      let O = onward _ _ (S .pre .1 .1 .1 .1) (c .before .before .before .before .if1 .left) in
+      let S = c .before .before .before .before .before .before .before in
+      let O = onward _ _ (S .pre .1 .1 .1 .1) (c .before .before .before .before .before .if1 .left) in
       record { fits = omega (arith, O .cut .three, O .cut .some, S .good .0 .1) }
 
   add-q3 : read-rest-lts.Need-add-q3 claims at read-rest.Post
   add-q3 c =
-      let S = c .before .before .before .before .before .before in
-      let O = onward _ _ (S .pre .1 .1 .1 .1) (c .before .before .before .before .if1 .left) in
+      let S = c .before .before .before .before .before .before .before in
+      let O = onward _ _ (S .pre .1 .1 .1 .1) (c .before .before .before .before .before .if1 .left) in
       record { fits = omega (arith, O .cut .three, O .cut .some, S .good .0 .1) }
 
   add-q4 : read-rest-lts.Need-add-q4 claims at read-rest.Post
   add-q4 c =
-      let S = c .before .before .before .before .before .before in
-      let O = onward _ _ (S .pre .1 .1 .1 .1) (c .before .before .before .before .if1 .left) in
+      let S = c .before .before .before .before .before .before .before in
+      let O = onward _ _ (S .pre .1 .1 .1 .1) (c .before .before .before .before .before .if1 .left) in
       record { fits = omega (arith, O .cut .three, O .cut .some, S .good .0 .1) }
 
   sub-read-set : read-rest-lts.Need-sub-read-set claims at read-rest.Post
@@ -73,23 +73,27 @@ module _ (t : ℕ) where
 
   part-read-set-end : read-rest-lts.Need-part-read-set-end claims at read-rest.Post
   part-read-set-end c =
-      let S = c .before .before .before .before .before .before in
-      let O = onward _ _ (S .pre .1 .1 .1 .1) (c .before .before .before .before .if1 .left) in
+      let S = c .before .before .before .before .before .before .before in
+      let O = onward _ _ (S .pre .1 .1 .1 .1) (c .before .before .before .before .before .if1 .left) in
       search needs
 
   read-set-requires : read-rest-lts.Need-read-set-requires claims at read-rest.Post
   read-set-requires c κs =
-      let S = c .before .before .before .before .before .before .before in
+      let S = c .before .before .before .before .before .before .before .before in
+      let p = S .args .p in
       let xs = S .args .numbers .now in
       let q = S .args .q in
-      let O = onward xs q (S .pre .1 .1 .1 .1) (c .before .before .before .before .before .if1 .left) in
+      let O = onward xs q (S .pre .1 .1 .1 .1) (c .before .before .before .before .before .before .if1 .left) in
       let n = O .cut .three in
-      (room1 (suc (S .args .p)) q xs n (S .pre .1 .0), (S .pre .1 .1 .0, (reached (S .pre .1 .1 .1 .0) (c .before .before .before .read-test .ensures .near), part-set (O .cut) (cut1-long q xs n))))
+      let l = length xs - q * 3 in
+      let S1 : Source _ _ _ (q + (q + (q + l))) = inside (S .pre .1 .1 .1 .0) p xs (c .before .before .before .before .read-test .ensures) (not-false _ (c .before .if2 .left)) (omega (arith, n)) in
+      let m = cut1-long q xs n in
+      (room1 (suc p) q xs n (S .pre .1 .0), (S .pre .1 .1 .0, (fewer S1 (omega (arith, m)), part-set (O .cut) m)))
 
   mul-read-set : read-rest-lts.Need-mul-read-set claims at read-rest.Post
   mul-read-set c =
-      let S = c .before .before .before .before .before .before .before .before .before in
-      let O = onward _ _ (S .pre .1 .1 .1 .1) (c .before .before .before .before .before .before .before .if1 .left) in
+      let S = c .before .before .before .before .before .before .before .before .before .before in
+      let O = onward _ _ (S .pre .1 .1 .1 .1) (c .before .before .before .before .before .before .before .before .if1 .left) in
       search needs
 
   sub-read-set-2 : read-rest-lts.Need-sub-read-set-2 claims at read-rest.Post
@@ -100,25 +104,30 @@ module _ (t : ℕ) where
 
   part-read-set-end-2 : read-rest-lts.Need-part-read-set-end-2 claims at read-rest.Post
   part-read-set-end-2 c =
-      let S = c .before .before .before .before .before .before .before .before .before in
-      let O = onward _ _ (S .pre .1 .1 .1 .1) (c .before .before .before .before .before .before .before .if1 .left) in
+      let S = c .before .before .before .before .before .before .before .before .before .before in
+      let O = onward _ _ (S .pre .1 .1 .1 .1) (c .before .before .before .before .before .before .before .before .if1 .left) in
       search needs
 
   read-set-requires-2 : read-rest-lts.Need-read-set-requires-2 claims at read-rest.Post
   read-set-requires-2 c κs =
-      let S = c .before .before .before .before .before .before .before .before .before .before in
+      let S = c .before .before .before .before .before .before .before .before .before .before .before in
+      let p = S .args .p in
       let xs = S .args .numbers .now in
       let q = S .args .q in
-      let O = onward xs q (S .pre .1 .1 .1 .1) (c .before .before .before .before .before .before .before .before .if1 .left) in
+      let O = onward xs q (S .pre .1 .1 .1 .1) (c .before .before .before .before .before .before .before .before .before .if1 .left) in
       let n = O .cut .three in
+      let l = length xs - q * 3 in
+      let S1 : Source _ _ _ (q + (q + (q + l))) = inside (S .pre .1 .1 .1 .0) p xs (c .before .before .before .before .before .before .before .read-test .ensures) (not-false _ (c .before .before .before .before .if2 .left)) (omega (arith, n)) in
       let z1 = c .before .before .read-set .last .0 in
       let k1 = c .before .before .read-set .kept .0 in
-      (room2 (suc (S .args .p)) q xs n (S .pre .1 .0) z1 k1, (S .pre .1 .1 .0, (reached (S .pre .1 .1 .1 .0) (c .before .before .read-set .ensures (part-set (O .cut) (cut1-long q xs n)) .near), part-set (O .cut) (part2-long q xs n z1 k1))))
+      let S2 = next-set p (O .cut) (cut1-long q xs n) S1 (c .before .before .read-set .ensures) in
+      let m = part2-long q xs n z1 k1 in
+      (room2 (suc p) q xs n (S .pre .1 .0) z1 k1, (S .pre .1 .1 .0, (fewer S2 (omega (arith, m)), part-set (O .cut) m)))
 
   mul-read-set-2 : read-rest-lts.Need-mul-read-set-2 claims at read-rest.Post
   mul-read-set-2 c =
-      let S = c .before .before .before .before .before .before .before .before .before .before .before .before in
-      let O = onward _ _ (S .pre .1 .1 .1 .1) (c .before .before .before .before .before .before .before .before .before .before .if1 .left) in
+      let S = c .before .before .before .before .before .before .before .before .before .before .before .before .before in
+      let O = onward _ _ (S .pre .1 .1 .1 .1) (c .before .before .before .before .before .before .before .before .before .before .before .if1 .left) in
       search needs
 
   sub-read-set-3 : read-rest-lts.Need-sub-read-set-3 claims at read-rest.Post
@@ -129,35 +138,42 @@ module _ (t : ℕ) where
 
   part-read-set-end-3 : read-rest-lts.Need-part-read-set-end-3 claims at read-rest.Post
   part-read-set-end-3 c =
-      let S = c .before .before .before .before .before .before .before .before .before .before .before .before in
-      let O = onward _ _ (S .pre .1 .1 .1 .1) (c .before .before .before .before .before .before .before .before .before .before .if1 .left) in
+      let S = c .before .before .before .before .before .before .before .before .before .before .before .before .before in
+      let O = onward _ _ (S .pre .1 .1 .1 .1) (c .before .before .before .before .before .before .before .before .before .before .before .if1 .left) in
       search needs
 
   read-set-requires-3 : read-rest-lts.Need-read-set-requires-3 claims at read-rest.Post
   read-set-requires-3 c κs =
-      let S = c .before .before .before .before .before .before .before .before .before .before .before .before .before in
+      let S = c .before .before .before .before .before .before .before .before .before .before .before .before .before .before in
+      let p = S .args .p in
       let xs = S .args .numbers .now in
       let q = S .args .q in
-      let O = onward xs q (S .pre .1 .1 .1 .1) (c .before .before .before .before .before .before .before .before .before .before .before .if1 .left) in
+      let O = onward xs q (S .pre .1 .1 .1 .1) (c .before .before .before .before .before .before .before .before .before .before .before .before .if1 .left) in
       let n = O .cut .three in
+      let l = length xs - q * 3 in
+      let S1 : Source _ _ _ (q + (q + (q + l))) = inside (S .pre .1 .1 .1 .0) p xs (c .before .before .before .before .before .before .before .before .before .before .read-test .ensures) (not-false _ (c .before .before .before .before .before .before .before .if2 .left)) (omega (arith, n)) in
       let z1 = c .before .before .before .before .before .read-set .last .0 in
       let k1 = c .before .before .before .before .before .read-set .kept .0 in
       let z2 = c .before .before .read-set2 .last .0 in
       let k2 = c .before .before .read-set2 .kept .0 in
-      (room3 (suc (S .args .p)) q xs n (S .pre .1 .0) z1 k1 z2 k2, (S .pre .1 .1 .0, (reached (S .pre .1 .1 .1 .0) (c .before .before .read-set2 .ensures (part-set (O .cut) (part2-long q xs n z1 k1)) .near), part-set (O .cut) (part3-long q xs n z1 k1 z2 k2))))
+      let S2 = next-set p (O .cut) (cut1-long q xs n) S1 (c .before .before .before .before .before .read-set .ensures) in
+      let S3 = next-set p (O .cut) (part2-long q xs n z1 k1) S2 (c .before .before .read-set2 .ensures) in
+      let m = part3-long q xs n z1 k1 z2 k2 in
+      (room3 (suc p) q xs n (S .pre .1 .0) z1 k1 z2 k2, (S .pre .1 .1 .0, (fewer S3 (omega (arith, m)), part-set (O .cut) m)))
 
   mul-read-rest : read-rest-lts.Need-mul-read-rest claims at read-rest.Post
   mul-read-rest c =
-      let S = c .before .before .before .before .before .before .before .before .before .before .before .before .before .before .before in
-      let O = onward _ _ (S .pre .1 .1 .1 .1) (c .before .before .before .before .before .before .before .before .before .before .before .before .before .if1 .left) in
+      let S = c .before .before .before .before .before .before .before .before .before .before .before .before .before .before .before .before in
+      let O = onward _ _ (S .pre .1 .1 .1 .1) (c .before .before .before .before .before .before .before .before .before .before .before .before .before .before .if1 .left) in
       record { fits = omega (arith, O .cut .three, S .good .0 .1) }
 
   sub-read-rest : read-rest-lts.Need-sub-read-rest claims at read-rest.Post
   sub-read-rest c =
-      let S = c .before .before .before .before .before .before .before .before .before .before .before .before .before .before .before in
+      let S = c .before .before .before .before .before .before .before .before .before .before .before .before .before .before .before .before in
+      let p = S .args .p in
       let xs = S .args .numbers .now in
       let q = S .args .q in
-      let O = onward xs q (S .pre .1 .1 .1 .1) (c .before .before .before .before .before .before .before .before .before .before .before .before .before .if1 .left) in
+      let O = onward xs q (S .pre .1 .1 .1 .1) (c .before .before .before .before .before .before .before .before .before .before .before .before .before .before .if1 .left) in
       let n = O .cut .three in
       let z1 = c .before .before .before .before .before .before .before .read-set .last .0 in
       let k1 = c .before .before .before .before .before .before .before .read-set .kept .0 in
@@ -169,10 +185,11 @@ module _ (t : ℕ) where
 
   part-read-rest-start : read-rest-lts.Need-part-read-rest-start claims at read-rest.Post
   part-read-rest-start c =
-      let S = c .before .before .before .before .before .before .before .before .before .before .before .before .before .before .before in
+      let S = c .before .before .before .before .before .before .before .before .before .before .before .before .before .before .before .before in
+      let p = S .args .p in
       let xs = S .args .numbers .now in
       let q = S .args .q in
-      let O = onward xs q (S .pre .1 .1 .1 .1) (c .before .before .before .before .before .before .before .before .before .before .before .before .before .if1 .left) in
+      let O = onward xs q (S .pre .1 .1 .1 .1) (c .before .before .before .before .before .before .before .before .before .before .before .before .before .before .if1 .left) in
       let n = O .cut .three in
       let z1 = c .before .before .before .before .before .before .before .read-set .last .0 in
       let k1 = c .before .before .before .before .before .before .before .read-set .kept .0 in
@@ -187,26 +204,33 @@ module _ (t : ℕ) where
 
   read-rest-requires : read-rest-lts.Need-read-rest-requires claims at read-rest.Post
   read-rest-requires c κs =
-      let S = c .before .before .before .before .before .before .before .before .before .before .before .before .before .before .before .before in
+      let S = c .before .before .before .before .before .before .before .before .before .before .before .before .before .before .before .before .before in
+      let p = S .args .p in
       let xs = S .args .numbers .now in
       let q = S .args .q in
-      let O = onward xs q (S .pre .1 .1 .1 .1) (c .before .before .before .before .before .before .before .before .before .before .before .before .before .before .if1 .left) in
+      let O = onward xs q (S .pre .1 .1 .1 .1) (c .before .before .before .before .before .before .before .before .before .before .before .before .before .before .before .if1 .left) in
       let n = O .cut .three in
+      let l = length xs - q * 3 in
+      let S1 : Source _ _ _ (q + (q + (q + l))) = inside (S .pre .1 .1 .1 .0) p xs (c .before .before .before .before .before .before .before .before .before .before .before .before .before .read-test .ensures) (not-false _ (c .before .before .before .before .before .before .before .before .before .before .if2 .left)) (omega (arith, n)) in
       let z1 = c .before .before .before .before .before .before .before .before .read-set .last .0 in
       let k1 = c .before .before .before .before .before .before .before .before .read-set .kept .0 in
       let z2 = c .before .before .before .before .before .read-set2 .last .0 in
       let k2 = c .before .before .before .before .before .read-set2 .kept .0 in
       let z3 = c .before .before .read-set3 .last .0 in
       let k3 = c .before .before .read-set3 .kept .0 in
+      let S2 = next-set p (O .cut) (cut1-long q xs n) S1 (c .before .before .before .before .before .before .before .before .read-set .ensures) in
+      let S3 = next-set p (O .cut) (part2-long q xs n z1 k1) S2 (c .before .before .before .before .before .read-set2 .ensures) in
+      let S4 = next-set p (O .cut) (part3-long q xs n z1 k1 z2 k2) S3 (c .before .before .read-set3 .ensures) in
       let m = part4-long q xs n z1 k1 z2 k2 z3 k3 in
-      (behind-shorter (O .cut) _ m (S .pre .0), (room4 (suc (S .args .p)) q xs n (S .pre .1 .0) z1 k1 z2 k2 z3 k3, (S .pre .1 .1 .0, (reached (S .pre .1 .1 .1 .0) (c .before .before .read-set3 .ensures (part-set (O .cut) (part3-long q xs n z1 k1 z2 k2)) .near), rest-behind O m))))
+      (behind-shorter (O .cut) _ m (S .pre .0), (room4 (suc p) q xs n (S .pre .1 .0) z1 k1 z2 k2 z3 k3, (S .pre .1 .1 .0, (fewer S4 (omega (arith, m)), rest-behind O m))))
 
   same-length-2 : read-rest-lts.Need-same-length-2 claims at read-rest.Post
   same-length-2 c =
-      let S = c .before .before .before .before .before .before .before .before .before .before .before .before .before .before .before .before .before .before in
+      let S = c .before .before .before .before .before .before .before .before .before .before .before .before .before .before .before .before .before .before .before in
+      let p = S .args .p in
       let xs = S .args .numbers .now in
       let q = S .args .q in
-      let O = onward xs q (S .pre .1 .1 .1 .1) (c .before .before .before .before .before .before .before .before .before .before .before .before .before .before .before .before .if1 .left) in
+      let O = onward xs q (S .pre .1 .1 .1 .1) (c .before .before .before .before .before .before .before .before .before .before .before .before .before .before .before .before .before .if1 .left) in
       let n = O .cut .three in
       let z1 = c .before .before .before .before .before .before .before .before .before .before .read-set .last .0 in
       let k1 = c .before .before .before .before .before .before .before .before .before .before .read-set .kept .0 in
@@ -218,10 +242,11 @@ module _ (t : ℕ) where
 
   returns-3 : read-rest-lts.Need-returns-3 claims at read-rest.Post
   returns-3 c =
-      let S = c .before .before .before .before .before .before .before .before .before .before .before .before .before .before .before .before .before .before in
+      let S = c .before .before .before .before .before .before .before .before .before .before .before .before .before .before .before .before .before .before .before in
+      let p = S .args .p in
       let xs = S .args .numbers .now in
       let q = S .args .q in
-      let O = onward xs q (S .pre .1 .1 .1 .1) (c .before .before .before .before .before .before .before .before .before .before .before .before .before .before .before .before .if1 .left) in
+      let O = onward xs q (S .pre .1 .1 .1 .1) (c .before .before .before .before .before .before .before .before .before .before .before .before .before .before .before .before .before .if1 .left) in
       let n = O .cut .three in
       let z1 = c .before .before .before .before .before .before .before .before .before .before .read-set .last .0 in
       let k1 = c .before .before .before .before .before .before .before .before .before .before .read-set .kept .0 in
@@ -229,7 +254,7 @@ module _ (t : ℕ) where
       let k2 = c .before .before .before .before .before .before .before .read-set2 .kept .0 in
       let z3 = c .before .before .before .before .read-set3 .last .0 in
       let k3 = c .before .before .before .before .read-set3 .kept .0 in
-      onward-read _ _ _ xs (c .before .before .before .before .before .before .before .before .before .before .before .before .before .before .read-test .ensures) O (not-false _ (c .before .before .before .before .before .before .before .before .before .before .before .before .if2 .left)) z1 k1 z2 k2 z3 k3 (c .before .read-rest .last .0)
+      onward-read _ _ _ xs (c .before .before .before .before .before .before .before .before .before .before .before .before .before .before .before .read-test .ensures) O (not-false _ (c .before .before .before .before .before .before .before .before .before .before .before .before .if2 .left)) z1 k1 z2 k2 z3 k3 (c .before .read-rest .last .0)
       (c .before .before .before .before .before .before .before .before .before .before .read-set .ensures)
       (c .before .before .before .before .before .before .before .read-set2 .ensures)
       (c .before .before .before .before .read-set3 .ensures)

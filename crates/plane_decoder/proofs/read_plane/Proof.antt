@@ -3,7 +3,8 @@ use Prim.Native.Nat.{suc}
 use native.Mathlib.Omega.{arith}
 use borrow.Author.Needs.{needs}
 use Rattle.list_laws.specs.Parts.{first-long, rest-long, after1-long, after-rest-long}
-use Rattle.set_decoder.proofs.Run.{reached}
+use Rattle.walk_laws.specs.Place.{moves-set}
+use Rattle.set_decoder.proofs.Run.{fewer, reached}
 use Rattle.shapes.proofs.Cuts.{first-fits, square-set, square-rest}
 use Rattle.plane_decoder.proofs.Plane.{first-room, rest-room, plane-read}
 use Rattle.plane_decoder.proofs.read_plane.Statement.{statement}
@@ -25,7 +26,7 @@ read-set-requires c κs =
     let q = S .args .first in
     let K = S .pre .1 .1 .1 in
     let n = first-fits K in
-    (first-room (suc (S .args .p)) q xs (S .pre .0), (S .pre .1 .0, (S .pre .1 .1 .0, square-set K (first-long q xs n))))
+    (first-room (suc (S .args .p)) q xs (S .pre .0), (S .pre .1 .0, (fewer (S .pre .1 .1 .0) (omega (arith, n, first-long q xs n)), square-set K (first-long q xs n))))
 
 mul-read-rest : tie.Need-mul-read-rest
 mul-read-rest c =
@@ -70,7 +71,16 @@ read-rest-requires c κs =
     let n = first-fits K in
     let z1 = c .before .before .read-set .last .0 in
     let k1 = c .before .before .read-set .kept .0 in
-    (rest-room (suc (S .args .p)) q xs (S .pre .0) n z1 k1, (S .pre .1 .0, (reached (S .pre .1 .1 .0) (c .before .before .read-set .ensures (square-set K (first-long q xs n)) .near), square-rest K (rest-long q xs n z1 k1))))
+    let A = square-set K (first-long q xs n) in (
+      rest-room (suc (S .args .p)) q xs (S .pre .0) n z1 k1,
+      (
+        S .pre .1 .0,
+        (
+          reached (S .pre .1 .1 .0) (moves-set (S .args .p) (A .d) _ (A .is)) (c .before .before .read-set .ensures A) (omega (arith, n, first-long q xs n, rest-long q xs n z1 k1)),
+          square-rest K (rest-long q xs n z1 k1),
+        ),
+      ),
+    )
 
 same-length : tie.Need-same-length
 same-length c =

@@ -5,10 +5,10 @@ use Rattle.plane_decoder.proofs.read_planes.Statement.{statement}
 use Rattle.plane_decoder.proofs.read_planes.Tie as tie
 
 abbrev Inv-loop : tie.InvT-loop
-Inv-loop numbers₀ first n bytes b p₀ at₀ numbers p at = Before n first numbers₀ bytes b p numbers at
+Inv-loop numbers₀ first n bytes b p₀ here₀ numbers p here = Before n first numbers₀ bytes b p numbers here
 
 abbrev μ-loop : tie.MeasureT-loop
-μ-loop numbers₀ first n bytes b p₀ at₀ numbers p at = p
+μ-loop numbers₀ first n bytes b p₀ here₀ numbers p here = p
 
 loop-holds : tie.Need-loop-holds Inv-loop μ-loop
 loop-holds c = let S = c .before in before-first _ _ _ _ _ (S .pre .0) (S .pre .1 .0) (S .pre .1 .1 .0) (S .pre .1 .1 .1)
@@ -27,18 +27,18 @@ same-length c = search needs
 
 returns : tie.Need-returns Inv-loop μ-loop
 returns c =
-    let B = c .before .before .before .before .before .loop .inv in
-    let h = c .before .before .before .before .loop-test .taken in
-    stopped B h _ _ (c .before .before .read-plane .ensures) (c .if1 .taken)
+    let B = c .before .before .before .before .before .before .loop .inv in
+    let h = c .before .before .before .before .before .loop-test .taken in
+    stopped B h _ _ (c .before .before .before .read-plane .ensures) (c .if1 .taken)
 
 loop-less : tie.Need-loop-less Inv-loop μ-loop
 loop-less c = search needs
 
 loop-again : tie.Need-loop-again Inv-loop μ-loop
 loop-again c =
-    let B = c .before .before .before .before .before .loop .inv in
-    let h = c .before .before .before .before .loop-test .taken in
-    before-next B h _ _ (c .before .before .read-plane .ensures) (c .before .before .read-plane .kept .0) (c .if1 .left)
+    let B = c .before .before .before .before .before .before .loop .inv in
+    let h = c .before .before .before .before .before .loop-test .taken in
+    before-next B h _ _ (c .before .before .before .read-plane .ensures) (c .before .before .before .read-plane .kept .0) (c .if1 .left)
 
 same-length-2 : tie.Need-same-length-2 Inv-loop μ-loop
 same-length-2 c = search needs

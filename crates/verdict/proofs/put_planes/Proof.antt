@@ -19,6 +19,9 @@ slice-aggregate-put-figures-2 c = refl
 put-figures-requires : tie.Need-put-figures-requires
 put-figures-requires c κs = tt
 
+put-running-requires : tie.Need-put-running-requires
+put-running-requires c κs = tt
+
 slice-aggregate-put-figures-3 : tie.Need-slice-aggregate-put-figures-3
 slice-aggregate-put-figures-3 c = refl
 
@@ -40,7 +43,7 @@ same-length c = search needs
 returns : tie.Need-returns
 unfolding planes
 returns c =
-    rw (← c .before .before .before .before .before .before .before .before .before .before .before .before .before .before .before .before .before .less .ensures, c .before .before .before .before .before .before .before .before .before .before .before .before .before .put-figures .ensures, c .before .before .before .before .before .before .before .put-figures2 .ensures) (c .before .before .put .ensures)
+    rw (← c .before .before .before .before .before .before .before .before .before .before .before .before .before .before .before .before .before .before .before .before .before .less .ensures, c .before .before .before .before .before .before .before .before .before .before .before .before .before .before .before .before .before .put-figures .ensures, c .before .before .before .before .before .before .before .before .before .before .before .before .before .put-running .ensures, c .before .before .before .before .before .before .before .put-figures2 .ensures) (c .before .before .put .ensures)
 
 pub put-planes-spec : {M : Type 1} → statement M
 put-planes-spec =
@@ -51,6 +54,7 @@ put-planes-spec =
     slice-aggregate-put-figures
     slice-aggregate-put-figures-2
     put-figures-requires
+    put-running-requires
     slice-aggregate-put-figures-3
     slice-aggregate-put-figures-4
     put-figures-requires-2

@@ -1,0 +1,3 @@
+-- The promise, and a few of them.
+pub mod Promise
+pub mod Cases

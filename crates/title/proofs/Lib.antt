@@ -1,0 +1,2 @@
+-- Laws of the title.
+pub mod Laws

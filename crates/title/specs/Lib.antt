@@ -1,0 +1,2 @@
+-- The title of what decode says.
+pub mod Title

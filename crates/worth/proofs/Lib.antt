@@ -1,0 +1,2 @@
+-- Laws of what was decoded.
+pub mod Laws

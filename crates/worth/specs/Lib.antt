@@ -1,0 +1,2 @@
+-- What was decoded, and what it is worth.
+pub mod Worth
