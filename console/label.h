@@ -14,6 +14,7 @@
  *         label_decode     bits to numbers: what they settle, 0 elsewhere
  *         label_inverse    numbers to greys
  *         label_thumbnail  the first of the numbers to fewer greys, the side halved r times
+ *         label_display    numbers to the greys of a softer picture, for the eye
  *     One block:
  *         label_block_check
  *
@@ -59,6 +60,16 @@
  *     band that r levels leave of the picture, plus 128 and set into 0 to 255; else no grey is further from
  *     that than (7(L - r) + 1)(2^p - 1).
  *
+ *     A softer picture is for the eye. Each number that isn't zero is shown moved up in magnitude by half of
+ *     what is still unknown of it: with u of its bits unread, u at least 1, by 2^(u - 1). u is p - 1 before
+ *     the place where the cut fell and p from there on; with p = 0 nothing is moved. Zeros stay zeros, and
+ *     the numbers lent are not changed. What that is worth, for numbers of label_decode with its p and place:
+ *     where u is at least 1, each number shown that isn't zero is within 2^(u - 1) of the true one, above it
+ *     or below; where u is 0 it is the true one. No grey is off by more than (7L + 1)(2^p - 1), as in the
+ *     plain picture. It is not promised to be nearer to the truth than the plain one. It is for the eye: to
+ *     measure or to keep, take the plain picture, of whose numbers more is proved. Measured on labels with
+ *     noise, it helped with p of 3 or more, and with p of 1 mostly not; docs/SOFTER.md has it all.
+ *
  *     All this is of the blocks of one coding: blocks of two shots under one label, with the same k, L and n,
  *     splice unnoticed in edition 1, and in edition 2 only if arm and mount number are the same too.
  *
@@ -69,14 +80,15 @@
  * REFUSALS
  *     `refusal` is 0, LABEL_OK, or the lowest of these that applies; but 13, which label_thumbnail alone has,
  *     is judged after 2 and before 3, and label_write judges the edition, which is 9, just before 6. A
- *     refused call answers 0 for all else and changes no byte and no number that it was lent. There is no 11
- *     and no 12 yet.
+ *     refused call answers 0 for all else and changes no byte and no number that it was lent. There is no 12
+ *     yet.
  *      1  LABEL_BAD_SIDE      k not in 3..8
  *      2  LABEL_BAD_LEVELS    L not in its range
  *      3  LABEL_BAD_LENGTH    picture, number or working slice not S x S long; label_thumbnail: numbers not
  *                             that, picture or working slice not (S/2^r)^2 long
- *      4  LABEL_BAD_NUMBER    a number beyond +-262143; label_thumbnail: one of the first (S/2^r)^2
- *      5  LABEL_BAD_PLANES    n above 18
+ *      4  LABEL_BAD_NUMBER    a number beyond +-262143; label_thumbnail: one of the first (S/2^r)^2;
+ *                             label_display: one as it was lent, and not as it is shown
+ *      5  LABEL_BAD_PLANES    n above 18; label_display: p above 18
  *      6  LABEL_BAD_ROOM      b beyond the bytes lent; label_write: b beyond what n planes can have, or room
  *                             under 512 bytes a block; label_read: under 512 bytes, or room under 492 for
  *                             each whole block lent; label_block_check: not 512 bytes
@@ -87,6 +99,7 @@
  *                             edition 2 arm is not 1 or 2, or mount above 16777215, judged after 7
  *     10  LABEL_BAD_TURN      a block's number is out of turn, its bytes 0 to 11, in edition 2 also 16 to 19,
  *                             are unlike block 0's, or its label is unlike the one expected
+ *     11  LABEL_BAD_STATE     label_display: the place is S x S or more; no decoding gives one
  *     13  LABEL_BAD_HALVINGS  r not in 1..L
  *
  * EXAMPLE
@@ -150,9 +163,9 @@ extern "C" {
 #endif
 
 #define LABEL_VERSION_MAJOR 0
-#define LABEL_VERSION_MINOR 6
+#define LABEL_VERSION_MINOR 7
 #define LABEL_VERSION_PATCH 0
-#define LABEL_VERSION "0.6.0"
+#define LABEL_VERSION "0.7.0"
 
 /* LABEL_PAYLOAD_BYTES and LABEL_PAYLOAD_BITS are those of edition 1; of whichever edition the blocks are,
    label_read asks for LABEL_PAYLOAD_BYTES of room a block. LABEL_PAYLOAD_BITS_OF takes edition 1 or 2; of a
@@ -190,6 +203,7 @@ enum label_refusal {
     LABEL_BAD_CHECK = 8,
     LABEL_BAD_FIELD = 9,
     LABEL_BAD_TURN = 10,
+    LABEL_BAD_STATE = 11,
     LABEL_BAD_HALVINGS = 13
 };
 
@@ -228,6 +242,20 @@ uint32_t label_thumbnail(uint32_t k, uint32_t levels, uint32_t halvings,
                          const int32_t *numbers, size_t numbers_count,
                          uint8_t *picture, size_t picture_count,
                          int32_t *room, size_t room_count);
+
+/* Fills the softer picture: `numbers` as label_decode left them, `unfinished` and `place` as it gave them;
+   any others that are not refused are taken too. Then nothing is promised, and no refusal tells: p or place
+   of another decoding, p forgotten as 0, p and place exchanged. Each number that isn't 0 is shown moved up in
+   magnitude by 2^(u - 1) where u is at least 1, u being unfinished - 1 before the place (0 where `unfinished`
+   is 0) and unfinished from it on. Of numbers that no decoding left so, what is moved may pass
+   LABEL_NUMBER_LIMIT and reach 393215: only the numbers lent are judged. With `unfinished` 0 it is
+   label_inverse's picture. `room` ends with the greys before they are set into 0 to 255, in Z order.
+   Gives the refusal, judged in this order: 1, 2, 3, 4, 5, 11; 0 if none. A place of S x S or more is 11 with
+   `unfinished` 0 too. */
+uint32_t label_display(uint32_t k, uint32_t levels, uint32_t unfinished, size_t place,
+                       const int32_t *numbers, size_t numbers_count,
+                       uint8_t *picture, size_t picture_count,
+                       int32_t *room, size_t room_count);
 
 /* Writes the record of the first b bits at the front of `room`, in the edition asked for, 1 or 2; gives its
    count of blocks. In edition 2 each of them names `arm` and `mount`; in edition 1 the two are ignored. The

@@ -63,6 +63,11 @@ static void thumbnail(void)
     refusal = label_thumbnail(k, levels, halvings, numbers, places, picture, few, room, few);
 }
 
+static void display(void)
+{
+    refusal = label_display(k, levels, LABEL_MOST_PLANES, places / 2, numbers, places, picture, places, room, places);
+}
+
 static void write_record(void)
 {
     struct label_blocks made = label_write(k, levels, n, edition, 2, LABEL_MOST_MOUNT, label, sizeof label,
@@ -83,10 +88,10 @@ static void block_check(void)
 
 static struct { const char *name; void (*call)(void); size_t most; } calls[] = {
     {"label_forward", forward, 0}, {"label_code", code, 0}, {"label_decode", decode, 0},
-    {"label_inverse", inverse, 0}, {"label_thumbnail", thumbnail, 0}, {"label_write", write_record, 0},
-    {"label_read", read_record, 0}, {"label_block_check", block_check, 0},
+    {"label_inverse", inverse, 0}, {"label_thumbnail", thumbnail, 0}, {"label_display", display, 0},
+    {"label_write", write_record, 0}, {"label_read", read_record, 0}, {"label_block_check", block_check, 0},
 };
-enum { FORWARD, CODE, DECODE, INVERSE, THUMBNAIL, WRITE, READ, CHECK, CALLS };
+enum { FORWARD, CODE, DECODE, INVERSE, THUMBNAIL, DISPLAY, WRITE, READ, CHECK, CALLS };
 
 static void fail(const char *what)
 {
@@ -161,6 +166,7 @@ static void tour(int kind)
     }
     measure(DECODE);
     measure(INVERSE);
+    measure(DISPLAY);
     for (halvings = 1; halvings <= levels; halvings++)
         measure(THUMBNAIL);
 }

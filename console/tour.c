@@ -1,5 +1,5 @@
-/* A picture's whole journey through the archive, from C: into a record of each edition, and out of it whole and cut, with
-   every thumbnail, at every size up to the largest k given: tour [LARGEST_K]. */
+/* A picture's whole journey through the archive, from C: into a record of each edition, and out of it whole and cut, plain,
+   softer and as every thumbnail, at every size up to the largest k given: tour [LARGEST_K]. */
 #include <stdio.h>
 #include <stdlib.h>
 #include <string.h>
@@ -8,9 +8,9 @@
 
 enum { MOST_K = 8, PLACES = LABEL_PLACES(MOST_K), BLOCKS = LABEL_MOST_BLOCKS(MOST_K, LABEL_MOST_PLANES) };
 
-static uint8_t picture[PLACES], shown[PLACES], bytes[LABEL_MOST_BYTES(MOST_K, LABEL_MOST_PLANES)];
+static uint8_t picture[PLACES], shown[PLACES], softer[PLACES], bytes[LABEL_MOST_BYTES(MOST_K, LABEL_MOST_PLANES)];
 static uint8_t record[BLOCKS * LABEL_BLOCK_BYTES], payload[BLOCKS * LABEL_PAYLOAD_BYTES];
-static int32_t numbers[PLACES], room[PLACES], low[PLACES], truth[PLACES];
+static int32_t numbers[PLACES], room[PLACES], low[PLACES], moved[PLACES], truth[PLACES];
 static const uint8_t label[8] = {'0', '0', '0', '0', '0', '4', '1', '7'};
 
 /* A ramp with a bar across it. */
@@ -70,13 +70,46 @@ static int numbers_worse(size_t places, struct label_settled settled)
     return settled.place >= places || (settled.place && !settled.unfinished);
 }
 
+/* How far the shown picture is off at most. */
+static unsigned long off(size_t places)
+{
+    unsigned long largest = 0;
+
+    for (size_t place = 0; place < places; place++) {
+        unsigned long by = (unsigned long)abs(picture[place] - shown[place]);
+        if (by > largest)
+            largest = by;
+    }
+    return largest;
+}
+
+/* Whether the softer picture is worth less than is promised: a grey is too far off, or it is not the picture of numbers of
+   which each that isn't zero is within 2^(u - 1) of the true one, u of its bits being unread, and exact where none is. */
+static int softer_worse(uint32_t k, uint32_t levels, struct label_settled settled, unsigned long promised)
+{
+    size_t places = LABEL_PLACES(k);
+
+    for (size_t i = 0; i < places; i++) {
+        uint32_t unread = settled.unfinished - (i < settled.place);
+        int32_t half = unread ? (int32_t)1 << (unread - 1) : 0;
+
+        moved[i] = numbers[i] > 0 ? numbers[i] + half : numbers[i] < 0 ? numbers[i] - half : 0;
+        if (moved[i] && abs(moved[i] - truth[i]) > half)
+            return 1;
+    }
+    if (label_display(k, levels, settled.unfinished, settled.place, numbers, places, softer, places, room, places)
+        || label_inverse(k, levels, moved, places, shown, places, room, places))
+        refused();
+    return memcmp(softer, shown, places) || off(places) > promised;
+}
+
 /* What the first blocks of the record show: edition, arm and mount, the planes unfinished, where the cut fell, the numbers
-   and the largest error against what is promised; then of each thumbnail. */
+   and the largest error against what is promised; then of the softer picture, and of each thumbnail. */
 static void out(uint32_t k, size_t places, size_t blocks)
 {
     struct label_kept kept;
     struct label_settled settled;
-    unsigned long largest = 0, promised;
+    unsigned long promised;
     int worse = 0;
 
     kept = label_read(record, blocks * LABEL_BLOCK_BYTES, label, sizeof label, payload, sizeof payload);
@@ -84,19 +117,16 @@ static void out(uint32_t k, size_t places, size_t blocks)
     if (kept.refusal || settled.refusal || kept.k != k
         || label_inverse(kept.k, kept.levels, numbers, places, shown, places, room, places))
         refused();
-    for (size_t place = 0; place < places; place++) {
-        unsigned long off = (unsigned long)abs(picture[place] - shown[place]);
-        if (off > largest)
-            largest = off;
-    }
     promised = (7ul * kept.levels + 1) * ((1ul << settled.unfinished) - 1);
     printf("  %zu of its blocks: edition %u, arm %u, mount %u, %zu bits\n", kept.blocks, (unsigned)kept.edition,
            (unsigned)kept.arm, (unsigned)kept.mount, kept.bits);
     printf("    %u planes unfinished", (unsigned)settled.unfinished);
     if (settled.unfinished)
         printf(", the cut at place %zu of %zu", settled.place, places);
-    printf(", %s\n", largest > promised || numbers_worse(places, settled) ? "WORSE THAN PROMISED"
+    printf(", %s\n", off(places) > promised || numbers_worse(places, settled) ? "WORSE THAN PROMISED"
                      : settled.unfinished == 0 ? "the very picture" : "as good as promised");
+    printf("    softer: %s\n", softer_worse(k, kept.levels, settled, promised) ? "WORSE THAN PROMISED"
+                               : settled.unfinished == 0 ? "the very picture" : "as good as promised");
     for (uint32_t r = 1; r <= kept.levels; r++)
         worse |= thumbnail_off(k, kept.levels, r) > (7ul * (kept.levels - r) + 1) * ((1ul << settled.unfinished) - 1);
     printf("    thumbnails, sides %u to %u: %s\n", 1u << (k - 1), 1u << (k - kept.levels),

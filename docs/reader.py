@@ -113,7 +113,7 @@ def opened(label, record, R=''):
     return said, header.encode() + greys(numbers, k, L, r)
 
 if __name__ == '__main__':
-    given, text, version = sys.argv[1:], __doc__.strip(), 'reader.py 0.6.0, editions 1 and 2'
+    given, text, version = sys.argv[1:], __doc__.strip(), 'reader.py 0.7.0, editions 1 and 2'
     if given in (['--help'], ['--version']): sys.exit(print(text if '--help' in given else version))
     wrong = len(given) not in (3, 4) or not all(os.fsencode(R).isdigit() for R in given[3:])
     if wrong or given[0][:1] == '-': sys.exit(print(text, file=sys.stderr) or 2)

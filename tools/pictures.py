@@ -1,7 +1,10 @@
-"""PGM pictures for tools/view and tools/poster: read with any header that netpbm's tools read, or refused by name."""
+"""Pictures for the tools: PGM, read with any header that netpbm's tools read, or refused by name; grey PNG, made and opened."""
+import struct
 import sys
+import zlib
 
 WIDE = 80
+PNG = b'\x89PNG\r\n\x1a\n'  # the first bytes of each
 
 
 class Refused(Exception):
@@ -75,3 +78,37 @@ def read_all(tool, names):
             refuse(tool, name, refused)
         pictures.append((rows, comment))
     return pictures
+
+
+def png(rows, depth=8):
+    """A grey PNG of rows of one byte a grey, each from 0 to 2^depth - 1, packed into as many bits as it needs (8, 4, 2 or 1)."""
+    def packed(row):
+        if depth == 8:
+            return bytes(row)
+        count = 8 // depth  # of greys in a byte; the spare ones of the last are 0
+        row = bytes(row) + bytes(-len(row) % count)
+        return bytes(sum(row[at + i] << 8 - depth * (i + 1) for i in range(count)) for at in range(0, len(row), count))
+
+    def chunk(kind, data):
+        return struct.pack('>I', len(data)) + kind + data + struct.pack('>I', zlib.crc32(kind + data))
+
+    header = struct.pack('>IIBBBBB', len(rows[0]), len(rows), depth, 0, 0, 0, 0)
+    lines = b''.join(b'\0' + packed(row) for row in rows)
+    return PNG + chunk(b'IHDR', header) + chunk(b'IDAT', zlib.compress(lines, 9)) + chunk(b'IEND', b'')
+
+
+def drawn(data):
+    """What a PNG draws, its header and its lines, to compare two by: another zlib packs the same lines into other bytes."""
+    header, lines, at = None, b'', len(PNG)
+    if data[:at] != PNG:
+        raise Refused('it is no PNG')
+    try:
+        while at < len(data):
+            size, kind = struct.unpack_from('>I4s', data, at)
+            inner = data[at + 8:at + 8 + size]
+            header = inner if kind == b'IHDR' else header
+            lines += inner if kind == b'IDAT' else b''
+            at += 12 + size
+        return header, zlib.decompress(lines)
+    except (struct.error, zlib.error):
+        raise Refused('it is a damaged PNG')

@@ -1,11 +1,12 @@
 //! The label library against the second program where chance is not enough:
 //! every size and level, every cut of small codings, every short string of bits
 //! and every cut of bits that no coder wrote, with the place where it fell, every
-//! plane count, every thumbnail of each size and of each sample, every change of
-//! one byte and every exchange of two in a block, every byte in each place of a
-//! label and of what the blocks of a record share, in both editions; every
-//! edition up to 300 with every arm up to 4, and every choice of a writer's
-//! faults. Stops at the first difference.
+//! plane count, every thumbnail of each size and of each sample, every p with
+//! every place of a display at side 8, every cut of small codings and of each
+//! sample displayed, every change of one byte and every exchange of two in a
+//! block, every byte in each place of a label and of what the blocks of a record
+//! share, in both editions; every edition up to 300 with every arm up to 4, and
+//! every choice of a writer's faults. Stops at the first difference.
 
 mod library;
 
@@ -336,7 +337,7 @@ struct Thumbnails {
     of_cut_samples: u64,
 }
 
-/// What a refused call for a thumbnail answers, and leaves as it was lent.
+/// What a refused call for a thumbnail or a display answers, and leaves as it was lent.
 fn refused(refusal: u32, [picture, room]: [usize; 2]) -> Answer {
     vec![
         ("refusal", Field::Small(refusal)),
@@ -452,6 +453,229 @@ fn every_thumbnail(
     }
 }
 
+/// The calls for displays that were made.
+#[derive(Default)]
+struct Displays {
+    accepted: u64,
+    refused: u64,
+    of_cuts: u64,
+    of_codings: u64,
+    of_samples: u64,
+}
+
+/// The call for a display.
+fn display(sizes: Sizes, unfinished: u32, place: u64, numbers: &[i32]) -> Request {
+    Request::Display {
+        k: sizes.k(),
+        levels: sizes.levels(),
+        unfinished,
+        place,
+        numbers: numbers.to_vec(),
+        picture: sizes.places(),
+        room: sizes.places(),
+    }
+}
+
+/// The bits of a number that are unread where a decoder stopped with so many planes unfinished at this place.
+fn unread(z: u64, unfinished: u32, place: u64) -> u32 {
+    match z < place {
+        true => unfinished.saturating_sub(1),
+        false => unfinished,
+    }
+}
+
+/// The numbers as they are displayed: each that is not 0 has moved up in magnitude by half of what is unknown about it.
+fn moved(numbers: &[i32], unfinished: u32, place: u64) -> Vec<i32> {
+    let half = |z| (1 << unread(z, unfinished, place)) / 2;
+    let numbers = (0..).zip(numbers);
+    numbers.map(|(z, number)| number + number.signum() * half(z)).collect()
+}
+
+/// Numbers, which nobody judges, with the greys that they give, set and before they are set.
+struct Greys {
+    numbers: Vec<i32>,
+    picture: Vec<u8>,
+    room: Vec<i32>,
+}
+
+impl Greys {
+    fn of(sizes: Sizes, numbers: Vec<i32>) -> Greys {
+        let (mut picture, mut room) = (vec![0; numbers.len()], vec![0; numbers.len()]);
+        transform::inverse(sizes, &numbers, &mut picture, &mut room);
+        Greys { numbers, picture, room }
+    }
+
+    /// What a call for a display answers that shows them.
+    fn answer(self) -> Answer {
+        vec![
+            ("refusal", Field::Small(0)),
+            ("picture", Field::Bytes(self.picture)),
+            ("room", Field::Numbers(self.room)),
+        ]
+    }
+}
+
+/// Numbers of side 8: all small ones; -1, 0 and 1 by turns; the limits, their neighbours and 0 by turns; powers of two
+/// and one less, of either sign.
+fn sets_of_64() -> [Vec<i32>; 4] {
+    let limit = LARGEST_MAGNITUDE;
+    let limits = [limit, -limit, 0, limit - 1, 1 - limit];
+    let power = |z: i32| (1 - z % 2 * 2) * ((1 << (z / 4 + 2)) - z / 2 % 2);
+    [
+        (-32..32).collect(),
+        (0..64).map(|z| z % 3 - 1).collect(),
+        limits.into_iter().cycle().take(64).collect(),
+        (0..64).map(power).collect(),
+    ]
+}
+
+/// Every p up to 19 with every place of side 8 and those behind it.
+fn every_p_and_place(comparison: &mut Comparison, sizes: Sizes, displays: &mut Displays) {
+    let places = sizes.places() as u64;
+    for numbers in sets_of_64() {
+        for unfinished in 0..=MOST_PLANES + 1 {
+            for place in (0..=places + 1).chain([u64::MAX]) {
+                let request = display(sizes, unfinished, place, &numbers);
+                let refusal = match (unfinished > MOST_PLANES, place >= places) {
+                    (true, _) => 5,
+                    (false, true) => 11,
+                    (false, false) => 0,
+                };
+                if refusal == 0 {
+                    let shown = Greys::of(sizes, moved(&numbers, unfinished, place));
+                    comparison.whole_by_rule(&request, &shown.answer());
+                    displays.accepted += 1;
+                } else {
+                    comparison.whole_by_rule(&request, &refused(refusal, [sizes.places(); 2]));
+                    displays.refused += 1;
+                }
+            }
+        }
+    }
+}
+
+/// Displays at one size: of numbers of every kind, with any p and place; each fault alone, and every choice of faults,
+/// which are told in the order 1, 2, 3, 4, 5, 11.
+fn every_display(comparison: &mut Comparison, random: &mut Random, sizes: Sizes, displays: &mut Displays) {
+    let (k, levels, places) = (sizes.k(), sizes.levels(), sizes.places());
+    let last = places as u64 - 1;
+    for _ in 0..if k < 7 { 12 } else { 3 } {
+        let numbers = samples::numbers(random, sizes);
+        let (unfinished, place) = (samples::planes(random), random.below(last + 1));
+        let shown = Greys::of(sizes, moved(&numbers, unfinished, place));
+        comparison.whole_by_rule(&display(sizes, unfinished, place, &numbers), &shown.answer());
+        displays.accepted += 1;
+    }
+
+    let numbers = samples::numbers(random, sizes);
+    let mut is_refused = |refusal, request: Request| {
+        let Request::Display { picture, room, .. } = request else {
+            unreachable!("it is a request for a display")
+        };
+        comparison.whole_by_rule(&request, &refused(refusal, [picture, room]));
+        displays.refused += 1;
+    };
+    // Some are right as a shift count or in their low byte, and some in their low half.
+    for wrong in [MOST_PLANES + 1, 32, 33, 256, 1 << 31, u32::MAX] {
+        for place in [0, last, last + 1] {
+            is_refused(5, display(sizes, wrong, place, &numbers));
+        }
+    }
+    for wrong in [last + 1, last + 2, 4 * (last + 1), 1 << 32, 1 << 63, u64::MAX] {
+        for unfinished in [0, 1, MOST_PLANES] {
+            is_refused(11, display(sizes, unfinished, wrong, &numbers));
+        }
+    }
+    for wrong in [LARGEST_MAGNITUDE + 1, -LARGEST_MAGNITUDE - 1, i32::MAX, i32::MIN] {
+        for place in [0, places / 2, places - 1] {
+            let mut numbers = numbers.clone();
+            numbers[place] = wrong;
+            is_refused(4, display(sizes, 0, last, &numbers));
+        }
+    }
+    for (faults, short) in (1_u32..64).flat_map(|faults| [0, 1, 2].map(|short| (faults, short))) {
+        let first = [1, 2, 3, 4, 5, 11][faults.trailing_zeros() as usize];
+        let [one, two, three, four, five, eleven] = [0, 1, 2, 3, 4, 5].map(|fault| faults >> fault & 1 == 1);
+        let mut lengths = [places; 3];
+        lengths[short] -= usize::from(three);
+        let [all, picture, room] = lengths;
+        let mut numbers = numbers[..all].to_vec();
+        if four {
+            numbers[0] = i32::MIN;
+        }
+        let request = Request::Display {
+            k: if one { LARGEST_K + 1 } else { k },
+            levels: if two { most_levels(k) + 1 } else { levels },
+            unfinished: if five { MOST_PLANES + 1 } else { MOST_PLANES },
+            place: if eleven { last + 1 } else { last },
+            numbers,
+            picture,
+            room,
+        };
+        is_refused(first, request);
+    }
+}
+
+/// Displays what a first part of a coding has settled, with the decoder's own p and place. Each number shown is true
+/// where none of its bits is unread, and else, unless it is 0, within 2^(u-1) of the truth; and no grey, set or before it
+/// is set, is further from the true one than a plain picture's may be.
+fn displayed_part(comparison: &mut Comparison, sizes: Sizes, truth: &Greys, part: &Decoded) {
+    let (unfinished, place) = (part.unfinished, part.place);
+    let request = display(sizes, unfinished, place, &part.numbers);
+    let shown = Greys::of(sizes, moved(&part.numbers, unfinished, place));
+    let numbers = (0..).zip(shown.numbers.iter().zip(&truth.numbers));
+    let limit = (7 * sizes.levels() + 1) * ((1 << unfinished) - 1);
+    let are_near = numbers.map(|(z, (number, truth))| {
+        let by = number.abs_diff(*truth);
+        match unread(z, unfinished, place) {
+            0 => by == 0,
+            unread => *number == 0 || by <= 1 << (unread - 1),
+        }
+    });
+    let set = shown.picture.iter().zip(&truth.picture);
+    let set = set.map(|(grey, truth)| u32::from(grey.abs_diff(*truth)) <= limit);
+    let unset = shown.room.iter().zip(&truth.room);
+    let unset = unset.map(|(grey, truth)| grey.abs_diff(*truth) <= limit);
+    if !are_near.chain(set).chain(unset).all(|is_near| is_near) {
+        println!("further off than is promised: {}", show::line(&request));
+        exit(1);
+    }
+    comparison.whole_by_rule(&request, &shown.answer());
+}
+
+/// Every cut of the coding of these numbers, displayed.
+fn every_cut_displayed(comparison: &mut Comparison, sizes: Sizes, numbers: Vec<i32>, displays: &mut Displays) {
+    let truth = Greys::of(sizes, numbers);
+    let bits = samples::coding(sizes, &truth.numbers);
+    for count in 0..=bits.count {
+        let part = decoded(comparison, &decoding(sizes, &bits, count));
+        displayed_part(comparison, sizes, &truth, &part);
+        displays.of_cuts += 1;
+    }
+    displays.of_codings += 1;
+}
+
+/// Every cut of small codings, displayed: of pictures, of numbers of every kind and, at side 8, of one number alone, at
+/// any place.
+fn every_small_display(comparison: &mut Comparison, random: &mut Random, sizes: Sizes, displays: &mut Displays) {
+    let (k, places) = (sizes.k(), sizes.places());
+    for _ in 0..if k == 3 { 6 } else { 2 } {
+        let picture = samples::picture(random, sizes);
+        let mut numbers = vec![0; places];
+        label::forward(k, sizes.levels(), &picture, &mut numbers).expect("the lengths are right");
+        every_cut_displayed(comparison, sizes, numbers, displays);
+        let numbers = samples::numbers(random, sizes);
+        every_cut_displayed(comparison, sizes, numbers, displays);
+    }
+    for place in (0..places).filter(|_| k == 3) {
+        for number in [5, -13] {
+            let mut numbers = vec![0; places];
+            numbers[place] = number;
+            every_cut_displayed(comparison, sizes, numbers, displays);
+        }
+    }
+}
+
 /// The names of all samples.
 fn all_samples() -> Vec<PathBuf> {
     let entries = fs::read_dir("samples").expect("there are samples");
@@ -490,13 +714,19 @@ fn record_of(sizes: Sizes, picture: &[u8]) -> Vec<u8> {
     library_record([k, levels, n], Origin::UNNAMED, b"0417AAL6", &bytes, coded.bits)
 }
 
-/// The numbers that the library settles by these blocks, and the planes that are not finished.
-fn settled(sizes: Sizes, blocks: &[u8]) -> (Vec<i32>, u32) {
+/// What the library decodes of these blocks.
+fn settled(sizes: Sizes, blocks: &[u8]) -> Decoded {
     let mut payload = vec![0; blocks.len() / LENGTH * READER_ROOM];
     let kept = label::read(blocks, b"0417AAL6", &mut payload).expect("the blocks are sound");
     let mut numbers = vec![1; sizes.places()];
     let settled = label::decode(kept.k, kept.levels, kept.n, &mut numbers, &payload, kept.bits);
-    (numbers, settled.expect("the bits are a coding's").unfinished)
+    let settled = settled.expect("the bits are a coding's");
+    Decoded {
+        unfinished: settled.unfinished,
+        read: settled.read as u64,
+        place: settled.place as u64,
+        numbers,
+    }
 }
 
 /// Whether the library's thumbnail of these numbers, set and before it is set, is within a limit of the low band that
@@ -513,20 +743,27 @@ fn is_near(sizes: Sizes, halvings: u32, numbers: &[i32], original: &[u8], limit:
 }
 
 /// Every sample at every level and r, whole and cut after each block: of a whole record the thumbnail is the low band
-/// of the original, of a cut one it is within its limit of that.
-fn every_sample(thumbnails: &mut Thumbnails) {
+/// of the original, of a cut one it is within its limit of that. And each of these records displayed.
+fn every_sample(comparison: &mut Comparison, thumbnails: &mut Thumbnails, displays: &mut Displays) {
     for path in all_samples() {
         let (k, original) = sample(&path);
         for sizes in all_sizes().filter(|sizes| sizes.k() == k) {
             let levels = sizes.levels();
             let record = record_of(sizes, &original);
+            let mut truth = vec![0; sizes.places()];
+            label::forward(k, levels, &original, &mut truth).expect("the lengths are right");
+            let truth = Greys::of(sizes, truth);
+            assert_eq!(truth.picture, original, "they are its numbers");
             for blocks in 1..=record.len() / LENGTH {
                 let is_whole = blocks * LENGTH == record.len();
-                let (numbers, unfinished) = settled(sizes, &record[..blocks * LENGTH]);
+                let part = settled(sizes, &record[..blocks * LENGTH]);
+                assert_eq!(part.unfinished == 0, is_whole, "all bits are there, or some are not");
+                displayed_part(comparison, sizes, &truth, &part);
+                displays.of_samples += 1;
                 for halvings in 1..=levels {
-                    let limit = (7 * (levels - halvings) + 1) * ((1 << unfinished) - 1);
+                    let limit = (7 * (levels - halvings) + 1) * ((1 << part.unfinished) - 1);
                     let limit = if is_whole { 0 } else { limit };
-                    if !is_near(sizes, halvings, &numbers, &original, limit) {
+                    if !is_near(sizes, halvings, &part.numbers, &original, limit) {
                         let name = path.display();
                         println!("{name}, L {levels}, r {halvings}, {blocks} blocks: beyond {limit} of the low band");
                         exit(1);
@@ -1071,6 +1308,7 @@ fn main() {
     let mut random = Random::new(417, 0);
     let mut thumbnails = Thumbnails::default();
     let mut cuts = Cuts::default();
+    let mut displays = Displays::default();
     every_place(&mut comparison);
     for sizes in all_sizes() {
         every_size(&mut comparison, &mut random, sizes, if sizes.k() < 7 { 24 } else { 6 });
@@ -1097,7 +1335,17 @@ fn main() {
             every_cut_of_any_bits(&mut comparison, &mut any, sizes, planes, &mut cuts);
         }
     }
-    every_sample(&mut thumbnails);
+    let mut soft = Random::new(417, 2);
+    for sizes in all_sizes() {
+        every_display(&mut comparison, &mut soft, sizes, &mut displays);
+        if sizes.k() == 3 {
+            every_p_and_place(&mut comparison, sizes, &mut displays);
+        }
+        if sizes.k() < 5 {
+            every_small_display(&mut comparison, &mut soft, sizes, &mut displays);
+        }
+    }
+    every_sample(&mut comparison, &mut thumbnails, &mut displays);
     every_byte(&mut comparison, &mut random);
     let mut editions = Editions::default();
     every_edition(&mut comparison, &mut random, &mut editions);
@@ -1138,5 +1386,14 @@ fn main() {
     println!(
         "{} thumbnails of samples: each the original's low band; {} of cut ones: each grey within its limit of that",
         thumbnails.of_whole_samples, thumbnails.of_cut_samples
+    );
+    println!(
+        "{} displays at every size and level, at side 8 with every p and place, and {} refused: by the first of 1, 2, 3, 4, \
+         5 and 11",
+        displays.accepted, displays.refused
+    );
+    println!(
+        "{} cuts of {} small codings displayed, and {} of samples: each number and each grey within its limit of the truth",
+        displays.of_cuts, displays.of_codings, displays.of_samples
     );
 }

@@ -146,5 +146,24 @@ pub fn answer(request: &Request) -> Answer {
                 ("room", Field::Numbers(room)),
             ]
         }
+        Request::Display {
+            k,
+            levels,
+            unfinished,
+            place,
+            numbers,
+            picture,
+            room,
+        } => {
+            let mut picture = transcript::lent_bytes(*picture);
+            let mut room = transcript::lent_numbers(*room);
+            let place = *place as usize;
+            let refusal = raw::display(*k, *levels, *unfinished, place, numbers, &mut picture, &mut room);
+            vec![
+                ("refusal", small(refusal)),
+                ("picture", Field::Bytes(picture)),
+                ("room", Field::Numbers(room)),
+            ]
+        }
     }
 }

@@ -1,4 +1,4 @@
-//! Random requests for all eight jobs, good and bad, each of them determined
+//! Random requests for all nine jobs, good and bad, each of them determined
 //! by the seed, its number and the options alone.
 
 use crate::bits;
@@ -10,9 +10,10 @@ use crate::record::{self, READER_ROOM};
 use crate::samples;
 use crate::sizes::{self, Sizes, LARGEST_MAGNITUDE, MOST_PLANES};
 use crate::transcript::{Request, MOST_BYTES, MOST_NUMBERS};
+use crate::walk;
 
 pub struct Options {
-    /// The jobs to make requests for, by their numbers 1 to 8.
+    /// The jobs to make requests for, by their numbers 1 to 9.
     pub jobs: Vec<u8>,
     /// The largest k of a good request, 3 to 8.
     pub largest: u32,
@@ -29,7 +30,8 @@ pub fn case(seed: u64, number: u64, options: &Options) -> Request {
         5 => record_writing(random, largest),
         6 => record_reading(random, largest),
         7 => block_check(random, largest),
-        _ => thumbnail(random, largest),
+        8 => thumbnail(random, largest),
+        _ => display(random, largest),
     }
 }
 
@@ -387,20 +389,29 @@ impl Writing {
     }
 }
 
+/// Most often none or few of so many faults, as the bits of a number.
+fn few_of(random: &mut Random, faults: u64) -> u64 {
+    (0..spoils(random)).fold(0, |chosen, _| chosen | 1 << random.below(faults))
+}
+
+/// The faults that are chosen by the bits of a number, the lowest first.
+fn chosen(faults: u64) -> impl Iterator<Item = u64> {
+    (0..64).filter(move |fault| faults >> fault & 1 == 1)
+}
+
 /// Which of the seven faults a request for record writing has: most often none
 /// or few of them, sometimes any choice, and now and then the edition or the
 /// names alone, of which many values are wrong.
-fn faults(random: &mut Random) -> impl Iterator<Item = u64> {
-    let few = (0..spoils(random)).fold(0, |chosen, _| chosen | 1 << random.below(7));
+fn writing_faults(random: &mut Random) -> impl Iterator<Item = u64> {
+    let few = few_of(random, 7);
     let any = random.below(1 << 7);
     let alone = random.pick(&[1 << 3, 1 << 6, 1 << 6, 1 << 6]);
-    let chosen = random.pick(&[few, few, few, any, alone, alone]);
-    (0..7).filter(move |fault| chosen >> fault & 1 == 1)
+    chosen(random.pick(&[few, few, few, any, alone, alone]))
 }
 
 fn record_writing(random: &mut Random, largest: u32) -> Request {
     let mut writing = Writing::new(random, largest);
-    for fault in faults(random) {
+    for fault in writing_faults(random) {
         writing.spoil(random, fault);
     }
     Request::RecordWriting {
@@ -525,6 +536,72 @@ fn thumbnail(random: &mut Random, largest: u32) -> Request {
         k: sent.k,
         levels: sent.levels,
         halvings,
+        numbers,
+        picture,
+        room,
+    }
+}
+
+/// Numbers with the p and the place that a decoder gave with them, most often of
+/// a coding; or numbers of any kind, with any p and place.
+fn displayed(random: &mut Random, sizes: Sizes) -> (Vec<i32>, u32, u64) {
+    if random.one_in(3) {
+        let numbers = samples::numbers(random, sizes);
+        let (first, last) = (0, sizes.places() as u64 - 1);
+        let anywhere = random.below(last + 1);
+        let place = random.pick(&[first, last, anywhere, anywhere]);
+        return (numbers, samples::planes(random), place);
+    }
+    let bits = samples::bits(random, sizes);
+    let count = cut(random, bits.count);
+    let mut numbers = vec![0; sizes.places()];
+    let (unfinished, _, place) = walk::decode(sizes, bits.planes, &mut numbers, &bits.bytes, count);
+    (numbers, unfinished, place.0 as u64)
+}
+
+/// A place of S² or more, most often next to it; some are right in their low
+/// half.
+fn wrong_place(random: &mut Random, sizes: Sizes) -> u64 {
+    let over = sizes.places() as u64;
+    let far = random.pick(&[2 * over, 1 << 16, 1 << 31, 1 << 32, 1 << 63]) + random.below(over);
+    random.pick(&[over, over, over + 1, far, u64::MAX, u64::MAX])
+}
+
+/// Which of the six faults a request for display has, in the order they are
+/// judged in: most often none or few of them, sometimes any choice, or two that
+/// are neighbours, or p or the place alone, of which many values are wrong.
+fn display_faults(random: &mut Random) -> impl Iterator<Item = u64> {
+    let few = few_of(random, 6);
+    let any = random.below(1 << 6);
+    let neighbours = 0b11 << random.below(5);
+    let alone = random.pick(&[1 << 4, 1 << 5]);
+    chosen(random.pick(&[0, 0, 0, 0, few, few, any, neighbours, alone]))
+}
+
+fn display(random: &mut Random, largest: u32) -> Request {
+    let mut sent = Sent::new(random, largest);
+    let sizes = sent.sizes;
+    let (mut numbers, mut unfinished, mut place) = displayed(random, sizes);
+    let (mut picture, mut room) = (sizes.places(), sizes.places());
+    for fault in display_faults(random) {
+        match fault {
+            0 => sent.spoil_k(random),
+            1 => sent.spoil_levels(random),
+            2 => match random.below(3) {
+                0 => spoil_list(random, &mut numbers),
+                1 => picture = wrong_length(random, picture, MOST_NUMBERS),
+                _ => room = wrong_length(random, room, MOST_NUMBERS),
+            },
+            3 => spoil_number(random, &mut numbers),
+            4 => unfinished = wrong_planes(random),
+            _ => place = wrong_place(random, sizes),
+        }
+    }
+    Request::Display {
+        k: sent.k,
+        levels: sent.levels,
+        unfinished,
+        place,
         numbers,
         picture,
         room,

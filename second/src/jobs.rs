@@ -1,4 +1,4 @@
-//! The eight jobs: each makes the checks it has inputs for, lowest refusal
+//! The nine jobs: each makes the checks it has inputs for, lowest refusal
 //! number first (but 13 before 3, and the edition's 9 before 6), and touches
 //! lent memory only when none of them refuses.
 
@@ -109,6 +109,30 @@ pub fn thumbnail(
     let first = &numbers[..places];
     sizes::check_magnitudes(first)?;
     transform::thumbnail(sizes, halvings, first, picture, room);
+    Ok(())
+}
+
+/// Fills the picture for display, and the room with its greys before they are
+/// set into 0 to 255, from numbers that a decoding left with so many planes
+/// unfinished at this place.
+pub fn display(
+    k: u32,
+    levels: u32,
+    unfinished: u32,
+    place: u64,
+    numbers: &[i32],
+    picture: &mut [u8],
+    room: &mut [i32],
+) -> Result<(), Refusal> {
+    let sizes = Sizes::new(k, levels)?;
+    for length in [numbers.len(), picture.len(), room.len()] {
+        sizes.check_length(length)?;
+    }
+    sizes::check_magnitudes(numbers)?;
+    sizes::check_planes(unfinished)?;
+    let stopped = sizes.check_place(place)?;
+    let shown = transform::softened(numbers, unfinished, stopped);
+    transform::inverse(sizes, &shown, picture, room);
     Ok(())
 }
 

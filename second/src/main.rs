@@ -82,14 +82,14 @@ fn make_cases(words: &Words) -> Result<ExitCode, Failure> {
     let seed = number(words.needed("--seed")?)?;
     let count: u64 = number(words.needed("--count")?)?;
     let first: u64 = number(words.option("--first").unwrap_or("0"))?;
-    let jobs = words.option("--jobs").unwrap_or("1,2,3,4,5,6,7,8");
+    let jobs = words.option("--jobs").unwrap_or("1,2,3,4,5,6,7,8,9");
     let jobs = jobs
         .split(',')
         .map(number)
         .collect::<Result<Vec<u8>, _>>()?;
     let largest = words.option("--largest").map_or(Ok(LARGEST_K), number)?;
-    if jobs.iter().any(|job| !(1..=8).contains(job)) {
-        return Err("the jobs are 1 to 8".into());
+    if jobs.iter().any(|job| !(1..=9).contains(job)) {
+        return Err("the jobs are 1 to 9".into());
     }
     if !(SMALLEST_K..=LARGEST_K).contains(&largest) {
         return Err("the largest k is one of 3 to 8".into());

@@ -13,6 +13,7 @@ pub enum Refusal {
     Check = 8,
     Field = 9,
     Turn = 10,
+    State = 11,
     Halvings = 13,
 }
 

@@ -221,6 +221,28 @@ fn given(request: &Request) -> String {
                 length("room", *room, greys)
             )
         }
+        Request::Display {
+            k,
+            levels,
+            unfinished,
+            place,
+            numbers,
+            picture,
+            room,
+        } => {
+            let places = places(*k, *levels);
+            format!(
+                "display k {} L {} p {} place {}, {}, {}, {}, {}",
+                k,
+                levels,
+                unfinished,
+                place,
+                length("numbers", numbers.len(), places),
+                magnitudes(numbers),
+                length("picture", *picture, places),
+                length("room", *room, places)
+            )
+        }
     }
 }
 

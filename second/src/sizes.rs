@@ -1,6 +1,7 @@
 //! The sizes section of the paper: side, levels, planes, and what follows from
 //! them.
 
+use crate::places::ZPlace;
 use crate::refusal::Refusal;
 
 pub const SMALLEST_K: u32 = 3;
@@ -62,6 +63,12 @@ impl Sizes {
 
     pub fn check_length(self, length: usize) -> Result<(), Refusal> {
         Refusal::Length.when(length != self.places())
+    }
+
+    /// The Z place of this number, if there is one.
+    pub fn check_place(self, place: u64) -> Result<ZPlace, Refusal> {
+        Refusal::State.when(place >= self.places() as u64)?;
+        Ok(ZPlace(place as usize))
     }
 
     pub fn check_halvings(self, halvings: u32) -> Result<(), Refusal> {

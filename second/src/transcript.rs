@@ -70,6 +70,15 @@ pub enum Request {
         picture: usize,
         room: usize,
     },
+    Display {
+        k: u32,
+        levels: u32,
+        unfinished: u32,
+        place: u64,
+        numbers: Vec<i32>,
+        picture: usize,
+        room: usize,
+    },
 }
 
 /// One value of an answer.
@@ -249,6 +258,32 @@ pub fn answer(request: &Request) -> Answer {
                 ("room", Field::Numbers(room)),
             ]
         }
+        Request::Display {
+            k,
+            levels,
+            unfinished,
+            place,
+            numbers,
+            picture,
+            room,
+        } => {
+            let mut picture = lent_bytes(*picture);
+            let mut room = lent_numbers(*room);
+            let (refusal, ()) = outcome(jobs::display(
+                *k,
+                *levels,
+                *unfinished,
+                *place,
+                numbers,
+                &mut picture,
+                &mut room,
+            ));
+            vec![
+                ("refusal", refusal),
+                ("picture", Field::Bytes(picture)),
+                ("room", Field::Numbers(room)),
+            ]
+        }
     }
 }
 
@@ -258,9 +293,9 @@ pub fn answer_length(request: &Request) -> usize {
         Request::Forward { numbers, .. } => 8 + 4 * numbers,
         Request::Coding { bytes, .. } => 16 + bytes,
         Request::Decoding { numbers, .. } => 24 + 4 * numbers,
-        Request::Inverse { picture, room, .. } | Request::Thumbnail { picture, room, .. } => {
-            4 + picture + 4 * room
-        }
+        Request::Inverse { picture, room, .. }
+        | Request::Thumbnail { picture, room, .. }
+        | Request::Display { picture, room, .. } => 4 + picture + 4 * room,
         Request::RecordWriting { room, .. } => 8 + room,
         Request::RecordReading { room, .. } => 44 + room,
         Request::BlockCheck { .. } => 4,
@@ -416,6 +451,22 @@ pub fn write_request(request: &Request, output: &mut impl Write) -> io::Result<(
             .list_of_numbers(numbers)
             .length(*picture)
             .length(*room),
+        Request::Display {
+            k,
+            levels,
+            unfinished,
+            place,
+            numbers,
+            picture,
+            room,
+        } => Output::job(9)
+            .small(*k)
+            .small(*levels)
+            .small(*unfinished)
+            .large(*place)
+            .list_of_numbers(numbers)
+            .length(*picture)
+            .length(*room),
     };
     output.write_all(&written.0)
 }
@@ -545,6 +596,15 @@ pub fn read_request(input: &mut impl Read) -> io::Result<Option<Request>> {
             k: input.small()?,
             levels: input.small()?,
             halvings: input.small()?,
+            numbers: input.list_of_numbers()?,
+            picture: input.length(MOST_NUMBERS)?,
+            room: input.length(MOST_NUMBERS)?,
+        },
+        9 => Request::Display {
+            k: input.small()?,
+            levels: input.small()?,
+            unfinished: input.small()?,
+            place: input.large()?,
             numbers: input.list_of_numbers()?,
             picture: input.length(MOST_NUMBERS)?,
             room: input.length(MOST_NUMBERS)?,

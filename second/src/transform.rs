@@ -1,7 +1,7 @@
 //! The reversible 5/3 transform: lines first, then the levels of a square, rows
 //! before columns.
 
-use crate::places;
+use crate::places::{self, ZPlace};
 use crate::sizes::Sizes;
 
 /// What is taken from each grey before the first level, and added at the end.
@@ -117,6 +117,38 @@ fn undo(k: u32, levels: u32, numbers: &[i32], picture: &mut [u8], room: &mut [i3
 /// Fills the picture and the room from the wavelet numbers.
 pub fn inverse(sizes: Sizes, numbers: &[i32], picture: &mut [u8], room: &mut [i32]) {
     undo(sizes.k(), sizes.levels(), numbers, picture, room);
+}
+
+/// How many bits of the number at this place are unread where the walk has
+/// stopped: those of all p planes at and after the place where it did, and of one
+/// fewer before it, where the running plane has been read.
+fn unread(place: ZPlace, unfinished: u32, stopped: ZPlace) -> u32 {
+    if place < stopped {
+        unfinished.saturating_sub(1)
+    } else {
+        unfinished
+    }
+}
+
+/// A number for display: unless it is zero it moves up in magnitude by half of
+/// what so many unread bits leave unknown.
+fn softer(number: i32, unread: u32) -> i32 {
+    match unread {
+        0 => number,
+        _ => number + number.signum() * (1 << (unread - 1)),
+    }
+}
+
+/// The numbers for display, of a walk that stopped with so many planes
+/// unfinished at this place. Of numbers that no decoding left so they may pass the
+/// limit of stored numbers.
+pub fn softened(numbers: &[i32], unfinished: u32, stopped: ZPlace) -> Vec<i32> {
+    let places = (0..numbers.len()).map(ZPlace);
+    let unread = places.map(|place| unread(place, unfinished, stopped));
+    let pairs = numbers.iter().zip(unread);
+    pairs
+        .map(|(number, unread)| softer(*number, unread))
+        .collect()
 }
 
 /// Fills a picture of side S/2^r and its room from the first (S/2^r)² numbers,

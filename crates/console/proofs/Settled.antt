@@ -2,11 +2,12 @@
 -- label/proofs/Settled.antt; here it is about the contracts of what the archive exports.
 use mathlib.Core.Path.{sym}
 use contract.Lifetimes.{Lfts}
-use Rattle.label.proofs.Settled.{Takes, Does, OneOutcome, one-outcome, forward-job, forward-outcome, code-job, code-outcome, decode-job, decode-outcome, inverse-job, inverse-outcome, thumbnail-job, thumbnail-outcome, write-job, write-outcome, read-job, read-outcome, check-job, check-outcome}
+use Rattle.label.proofs.Settled.{Takes, Does, OneOutcome, one-outcome, forward-job, forward-outcome, code-job, code-outcome, decode-job, decode-outcome, inverse-job, inverse-outcome, display-job, display-outcome, thumbnail-job, thumbnail-outcome, write-job, write-outcome, read-job, read-outcome, check-job, check-outcome}
 use Rattle.console.proofs.label_forward.Reads as label_forward
 use Rattle.console.proofs.label_code.Reads as label_code
 use Rattle.console.proofs.label_decode.Reads as label_decode
 use Rattle.console.proofs.label_inverse.Reads as label_inverse
+use Rattle.console.proofs.label_display.Reads as label_display
 use Rattle.console.proofs.label_thumbnail.Reads as label_thumbnail
 use Rattle.console.proofs.label_write.Reads as label_write
 use Rattle.console.proofs.label_read.Reads as label_read
@@ -47,6 +48,15 @@ inverse-does κs a r s x = x
 
 pub inverse-settled : (κs : Lfts 3) → OneOutcome (label_inverse.Post κs) (inverse-outcome κs)
 inverse-settled κs = one-outcome (label_inverse.Post κs) (inverse-job κs) (inverse-outcome κs) (inverse-does κs)
+
+pub display-takes : (κs : Lfts 3) → Takes (label_display.Pre κs)
+display-takes κs a = tt
+
+pub display-does : (κs : Lfts 3) → Does (label_display.Post κs) (display-job κs) (display-outcome κs)
+display-does κs a r s x = x
+
+pub display-settled : (κs : Lfts 3) → OneOutcome (label_display.Post κs) (display-outcome κs)
+display-settled κs = one-outcome (label_display.Post κs) (display-job κs) (display-outcome κs) (display-does κs)
 
 pub thumbnail-takes : (κs : Lfts 3) → Takes (label_thumbnail.Pre κs)
 thumbnail-takes κs a = tt

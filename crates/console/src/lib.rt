@@ -1,6 +1,6 @@
 // The library for C and Rust: every job as numbers, slices and plain structs. See console/label.h.
 ghost use mathlib.Core.Path.{_≡_};
-ghost use Rattle.paper.specs.Jobs.{forwardJob, codingJob, decodingJob, inverseJob, thumbnailJob, writingJob, readingJob, checkJob};
+ghost use Rattle.paper.specs.Jobs.{forwardJob, codingJob, decodingJob, inverseJob, displayJob, thumbnailJob, writingJob, readingJob, checkJob};
 use coding::Written;
 use decoding::Settled;
 use record::Blocks;
@@ -52,6 +52,21 @@ pub extern "C" fn label_inverse(
     ensures { λ r. ⌜ inverseJob k levels (now (numbers .entry)) (now (picture .entry)) (now (room .entry)) ≡ record { refusal = r; picture = now (picture .exit); room = now (room .exit) } ⌝ }
 {
     label::inverse(k, levels, numbers, picture, room)
+}
+
+#[no_mangle]
+pub extern "C" fn label_display(
+    k: u32,
+    levels: u32,
+    unfinished: u32,
+    place: usize,
+    numbers: &[i32],
+    picture: &mut [u8],
+    room: &mut [i32],
+) -> u32
+    ensures { λ r. ⌜ displayJob k levels unfinished place (now (numbers .entry)) (now (picture .entry)) (now (room .entry)) ≡ record { refusal = r; picture = now (picture .exit); room = now (room .exit) } ⌝ }
+{
+    label::display(k, levels, unfinished, place, numbers, picture, room)
 }
 
 #[no_mangle]

@@ -1,8 +1,8 @@
-// decode [--thumbnail R] LABEL < record > picture.pgm
+// decode [--softer | --thumbnail R] LABEL < record > picture.pgm
 //
-// Makes the picture of a record, whole or cut anywhere, side 8 to 64, if it has the label expected, or a thumbnail of it, its
-// side halved R times. Standard error says what it is worth, the verdict first; where something is wrong, it says what, and
-// nothing is written. docs/MEMORY.md has the sum of the buffers.
+// Makes the picture of a record, whole or cut anywhere, side 8 to 64, if it has the label expected, or a softer one for the eye,
+// or a thumbnail of it, its side halved R times. Standard error says what it is worth, the verdict first; where something is
+// wrong, it says what, and nothing is written. docs/MEMORY.md has the sum of the buffers.
 use desk::MOST_GREYS;
 use desk::PAYLOAD_ROOM;
 use desk::RECORD_BYTES;
@@ -17,11 +17,11 @@ use square_pgm::MOST_HELD;
 fn write_help(fd: i32) {
     pipes::write_all(
         fd,
-        b"usage: decode [--thumbnail R] LABEL < record > picture.pgm\n\nMakes the picture (PGM) of a record, whole or cut anywhere, side 8 to 64.\n  LABEL  the label expected: eight characters, 0-9 or A-Z; leading zeros count\n",
+        b"usage: decode [--softer | --thumbnail R] LABEL < record > picture.pgm\n\nMakes the picture (PGM) of a record, whole or cut anywhere, side 8 to 64.\n  LABEL  the label expected: eight characters, 0-9 or A-Z; leading zeros count\n",
     );
     pipes::write_all(
         fd,
-        b"  R      makes a thumbnail of it, the side halved R times: from 1 to the levels\n         of the record\n",
+        b"  --softer       makes a cut one softer for the eye: half of what is unknown is\n                 added to the magnitude of each number but 0; the promise stays\n  --thumbnail R  makes a thumbnail of it, the side halved R times: from 1 to the\n                 levels of the record\n",
     );
     pipes::write_all(
         fd,
@@ -63,7 +63,14 @@ fn halvings_line(label: &[u8], levels: u32, line: &mut [u8]) -> usize {
 }
 
 // The header with its promise, and the greys of what is shown; false if they could not be written.
-fn write_picture(kept: Kept, halvings: u32, unfinished: u32, label: &[u8], picture: &[u8]) -> bool {
+fn write_picture(
+    wanted: Wanted,
+    kept: Kept,
+    unfinished: u32,
+    label: &[u8],
+    picture: &[u8],
+) -> bool {
+    let halvings = desk::halvings(wanted);
     let k = sizes::less(kept.k, halvings);
     let mut promise = [0u8; 160];
     let told = promise::promise(
@@ -71,6 +78,7 @@ fn write_picture(kept: Kept, halvings: u32, unfinished: u32, label: &[u8], pictu
         kept.k,
         kept.levels,
         halvings,
+        desk::wants_softer(wanted),
         unfinished,
         kept.blocks,
         &mut promise,
@@ -111,15 +119,15 @@ fn rebuild(
     if settled.refusal != 0 {
         return remarks::refused(settled.refusal, line);
     }
-    let halvings = desk::halvings(wanted);
-    if !write_picture(kept, halvings, settled.unfinished, label, picture) {
+    if !write_picture(wanted, kept, settled.unfinished, label, picture) {
         return words::put(b"REFUSED: standard output could not be written\n", line, 0);
     }
     verdict::report(
         label,
         kept.k,
         kept.levels,
-        halvings,
+        desk::halvings(wanted),
+        desk::wants_softer(wanted),
         kept.edition,
         kept.arm,
         kept.mount,
@@ -166,12 +174,15 @@ fn read_and_decode(wanted: Wanted, room: &mut [u8], label: &[u8], line: &mut [u8
     decode(wanted, room, filled.count, label, line)
 }
 
-// The picture, or a thumbnail, for which R is argument 2: it is read through the room that the blocks will have.
-fn show(small: bool, label: &[u8], line: &mut [u8]) -> usize {
+// The picture, as it is or softer.
+fn show(wanted: Wanted, label: &[u8], line: &mut [u8]) -> usize {
     let mut room = [0u8; RECORD_BYTES];
-    if !small {
-        return read_and_decode(Wanted::Picture, &mut room, label, line);
-    }
+    read_and_decode(wanted, &mut room, label, line)
+}
+
+// A thumbnail, for which R is argument 2: it is read through the room that the blocks will have.
+fn show_thumbnail(label: &[u8], line: &mut [u8]) -> usize {
+    let mut room = [0u8; RECORD_BYTES];
     let halvings = arguments::number(2, &mut room);
     if halvings.next == 0 {
         return arguments::number_line(b"R", RECORD_BYTES, line);
@@ -187,7 +198,18 @@ fn run_thumbnail(line: &mut [u8]) -> usize {
         write_help(STDERR_FILENO);
         return 0;
     }
-    show(true, &label[..count], line)
+    show_thumbnail(&label[..count], line)
+}
+
+// What stands behind --softer: the label.
+fn run_softer(line: &mut [u8]) -> usize {
+    let mut label = [0u8; 16];
+    let count = os::arg(2, &mut label);
+    if os::arg_count() != 3 || arguments::is_option(&label[..count]) {
+        write_help(STDERR_FILENO);
+        return 0;
+    }
+    show(Wanted::Softer, &label[..count], line)
 }
 
 fn run(line: &mut [u8]) -> usize {
@@ -198,17 +220,20 @@ fn run(line: &mut [u8]) -> usize {
         return 0;
     }
     if fields::same_bytes(&label[..count], b"--version") {
-        pipes::write_all(STDOUT_FILENO, b"decode 0.6.0\n");
+        pipes::write_all(STDOUT_FILENO, b"decode 0.7.0\n");
         return 0;
     }
     if fields::same_bytes(&label[..count], b"--thumbnail") {
         return run_thumbnail(line);
     }
+    if fields::same_bytes(&label[..count], b"--softer") {
+        return run_softer(line);
+    }
     if os::arg_count() != 2 || arguments::is_option(&label[..count]) {
         write_help(STDERR_FILENO);
         return 0;
     }
-    show(false, &label[..count], line)
+    show(Wanted::Picture, &label[..count], line)
 }
 
 fn main() {

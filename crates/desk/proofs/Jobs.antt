@@ -1,16 +1,13 @@
 -- Jobs that follow one another: where the first refusal ends it, and where each is done.
-use mathlib.Core.Path.{_≡_, refl, sym, _∙_}
-use mathlib.Core.Bool.{Bool, true, false, _&&_}
+use mathlib.Core.Path.{_≡_, _∙_}
 use mathlib.Core.List.{List, _++_}
 use Prim.Native.Nat.{ℕ, _+_, _-_, _<_, _≤_}
 use native.Mathlib.Omega.{arith}
-use lib.Dec.{leb}
 use lib.IntN.{ℤ}
 use lib.ListN.{length, take, drop}
 use borrow.Author.Tests.{le-leb, lt-leb}
 use Rattle.sizes.proofs.Refusals.{refused-is, done-is}
 use Rattle.paper.specs.Jobs.{Forward, forwardJob, Coding, codingJob, Writing, writingJob, Decoding, decodingJob, Inverse}
-use Rattle.paper.specs.Lists.{pick}
 use Rattle.paper.specs.Block.{Origin}
 use Rattle.desk.specs.declared.Wanted.{Wanted}
 use Rattle.desk.specs.Desk.{areaOf, Encoding, encodingOf, encodingIn, halvingsOf, shownJob, Rebuilding, rebuildingOf, rebuildingIn}
@@ -36,7 +33,7 @@ module _ (wanted : Wanted) (k L n : ℕ) (bytes : List ℕ) (b : ℕ) (numbers :
   unfolding rebuildingOf
   decode-refused h = rw e (refused-is (d .refusal) _ _ (omega arith))
 
-  pub rebuilt-is : (i : Inverse) → d .refusal ≡ 0 → shownJob wanted k L (d .numbers) picture room ≡ i → rebuildingOf wanted k L n bytes b numbers picture room ≡ record { refusal = i .refusal; unfinished = d .unfinished; read = d .read; place = d .place; numbers = d .numbers; picture = i .picture; room = i .room }
+  pub rebuilt-is : (i : Inverse) → d .refusal ≡ 0 → shownJob wanted k L (d .unfinished) (d .place) (d .numbers) picture room ≡ i → rebuildingOf wanted k L n bytes b numbers picture room ≡ record { refusal = i .refusal; unfinished = d .unfinished; read = d .read; place = d .place; numbers = d .numbers; picture = i .picture; room = i .room }
   unfolding rebuildingOf
   rebuilt-is i z f = rw (e, f) (done-is (d .refusal) _ _ z)
 

@@ -1,7 +1,7 @@
--- What the programs make is what the demands speak of: a picture's journey into a record, and out of what is left of it, whole or as
--- a thumbnail. Both are said of the contracts of `encode` and `rebuild`, as the checker reads them from src/lib.rt (`Post` of their
--- `Reads`).
-use mathlib.Core.Path.{_≡_, refl, sym, ap, _∙_, subst}
+-- What the programs make is what the demands speak of: a picture's journey into a record, and out of what is left of it, as it is,
+-- softer, or as a thumbnail. Both are said of the contracts of `encode` and `rebuild`, as the checker reads them from src/lib.rt
+-- (`Post` of their `Reads`).
+use mathlib.Core.Path.{_≡_, refl, sym, ap, _∙_}
 use mathlib.Core.Bool.{Bool, true, false, _&&_}
 use mathlib.Core.List.{List, _++_}
 use Prim.Native.Nat.{ℕ, zero, suc, _+_, _-_}
@@ -17,10 +17,10 @@ use lib.ListN.{length, take, drop}
 use Rattle.paper.specs.Lists.{pick}
 use Rattle.paper.specs.Sizes.{judged}
 use Rattle.paper.specs.Block.{Origin}
-use Rattle.paper.specs.Jobs.{Forward, forwardJob, Coding, codingJob, Writing, writingJob, Decoding, decodingJob, Inverse, Read, readingJob}
-use Rattle.label.specs.Journey.{intoRecord, Seen, seenBy, outOfRecord, thumbnailOutOfRecord}
+use Rattle.paper.specs.Jobs.{forwardJob, codingJob, Writing, writingJob, Decoding, decodingJob, Inverse, readingJob}
+use Rattle.label.specs.Journey.{intoRecord, Seen, seenBy, outOfRecord, softerOutOfRecord, thumbnailOutOfRecord}
 use Rattle.desk.specs.declared.Wanted.{Wanted}
-use Rattle.desk.specs.declared.Wanted.the-variants.{Picture, Thumbnail}
+use Rattle.desk.specs.declared.Wanted.the-variants.{Picture, Softer, Thumbnail}
 use Rattle.desk.specs.Desk.{areaOf, Encoding, encodingOf, encodingIn, halvingsOf, shownJob, Rebuilding, rebuildingOf, rebuildingIn}
 use Rattle.desk.proofs.encode as encode-fn
 use Rattle.desk.proofs.encode.Kinds as encode-kinds
@@ -80,26 +80,30 @@ encode-into-record κs a r s x h = encoding-in _ _ _ _ _ _ _ _ _ _ _ x h
 -- ---- out of a record
 one-refused : (a : ℕ) (d : Decoding) (i : Inverse) (picture : List ℕ) (room : List ℤ) →
     let r : Rebuilding = judged a (λ r. record { refusal = r; unfinished = d .unfinished; read = d .read; place = d .place; numbers = d .numbers; picture = picture; room = room }) (record { refusal = i .refusal; unfinished = d .unfinished; read = d .read; place = d .place; numbers = d .numbers; picture = i .picture; room = i .room }) in
-    r .refusal ≡ 0 → (i .refusal ≡ 0) × (i .picture ≡ r .picture) × (d .unfinished ≡ r .unfinished) × (d .place ≡ r .place)
-one-refused zero d i picture room h = (h, refl, refl, refl)
+    r .refusal ≡ 0 → (i .refusal ≡ 0) × (i .picture ≡ r .picture) × (d .unfinished ≡ r .unfinished) × (d .place ≡ r .place) × (d .numbers ≡ r .numbers)
+one-refused zero d i picture room h = (h, refl, refl, refl, refl)
 one-refused (suc a) d i picture room h = absurd (omega arith)
 
--- the front of the picture's buffer ends as the journey's picture, and the unfinished planes and the place are the journey's
-pub record Shown (seen : Seen) (area : ℕ) (before after : List ℕ) (unfinished place : ℕ) : Type 0 where
+-- the front of the picture's buffer ends as the journey's picture, that of the numbers' as the numbers decoded, whatever is shown of
+-- them, and the unfinished planes and the place are the journey's
+pub record Shown (seen : Seen) (area shown : ℕ) (held holds : List ℤ) (before after : List ℕ) (unfinished place : ℕ) : Type 0 where
   pub accepted : seen .rebuilt .refusal ≡ 0
-  pub picture : after ≡ seen .rebuilt .picture ++ drop area before
+  pub picture : after ≡ seen .rebuilt .picture ++ drop shown before
+  pub numbers : holds ≡ seen .decoded .numbers ++ drop area held
   pub planes : unfinished ≡ seen .decoded .unfinished
   pub cut : place ≡ seen .decoded .place
 
--- the journey of what is wanted: to the picture, or to a thumbnail
+-- the journey of what is wanted: to the picture, to a softer one, or to a thumbnail
 abbrev pub journeyOf : Wanted → List ℕ → List ℕ → List ℕ → List ℤ → List ℕ → List ℤ → Seen
 journeyOf Picture label s payload numbers picture room = outOfRecord label s payload numbers picture room
+journeyOf Softer label s payload numbers picture room = softerOutOfRecord label s payload numbers picture room
 journeyOf (Thumbnail r) label s payload numbers picture room = thumbnailOutOfRecord r label s payload numbers picture room
 
 journey-is : (wanted : Wanted) (label s payload : List ℕ) (numbers : List ℤ) (picture : List ℕ) (room : List ℤ)
-    → journeyOf wanted label s payload numbers picture room ≡ seenBy (λ k L decoded. shownJob wanted k L decoded picture room) label s payload numbers
-unfolding outOfRecord thumbnailOutOfRecord
+    → journeyOf wanted label s payload numbers picture room ≡ seenBy (λ k L d. shownJob wanted k L (d .unfinished) (d .place) (d .numbers) picture room) label s payload numbers
+unfolding outOfRecord softerOutOfRecord thumbnailOutOfRecord
 journey-is Picture label s payload numbers picture room = refl
+journey-is Softer label s payload numbers picture room = refl
 journey-is (Thumbnail r) label s payload numbers picture room = refl
 
 rebuilding-out-of-record : (wanted : Wanted) (label s payload : List ℕ) (numbers : List ℤ) (picture : List ℕ) (room : List ℤ) (q : Rebuilding) →
@@ -107,7 +111,7 @@ rebuilding-out-of-record : (wanted : Wanted) (label s payload : List ℕ) (numbe
     let area = areaOf (read .k) in
     let shown = areaOf (read .k - halvingsOf wanted) in
     rebuildingIn wanted (read .k) (read .L) (read .n) (read .room) (read .bits) numbers picture room ≡ q → q .refusal ≡ 0
-    → Shown (journeyOf wanted label s payload (take area numbers) (take shown picture) (take shown room)) shown picture (q .picture) (q .unfinished) (q .place)
+    → Shown (journeyOf wanted label s payload (take area numbers) (take shown picture) (take shown room)) area shown numbers (q .numbers) picture (q .picture) (q .unfinished) (q .place)
 unfolding rebuildingIn rebuildingOf
 rebuilding-out-of-record wanted label s payload numbers picture room q p h =
     let read = readingJob s label payload in
@@ -115,16 +119,18 @@ rebuilding-out-of-record wanted label s payload numbers picture room q p h =
     let shown = areaOf (read .k - halvingsOf wanted) in
     let is = not-3 (λ (q : Rebuilding). q .refusal) (leb area (length numbers) && leb shown (length picture) && leb shown (length room)) _ _ q refl p h in
     let d = decodingJob (read .k) (read .L) (read .n) (take area numbers) (read .room) (read .bits) in
-    let i = shownJob wanted (read .k) (read .L) (d .numbers) (take shown picture) (take shown room) in
+    let i = shownJob wanted (read .k) (read .L) (d .unfinished) (d .place) (d .numbers) (take shown picture) (take shown room) in
     let all = one-refused (d .refusal) d i (take shown picture) (take shown room) (ap (λ (q : Rebuilding). q .refusal) is ∙ h) in
     rw (journey-is wanted label s payload (take area numbers) (take shown picture) (take shown room)) (record {
       accepted = all .0;
       picture = sym (ap (λ (q : Rebuilding). q .picture) is) ∙ ap (λ (l : List ℕ). l ++ drop shown picture) (sym (all .1));
+      numbers = sym (ap (λ (q : Rebuilding). q .numbers) is) ∙ ap (λ (l : List ℤ). l ++ drop area numbers) (sym (all .4));
       planes = sym (ap (λ (q : Rebuilding). q .unfinished) is) ∙ sym (all .2);
       cut = sym (ap (λ (q : Rebuilding). q .place) is) ∙ sym (all .3);
     })
 
--- Where rebuild, lent what the reader gave, does not refuse, the greys, the unfinished planes and the place are those of the journey.
+-- Where rebuild, lent what the reader gave, does not refuse, the greys, the numbers, the unfinished planes and the place are those of the
+-- journey.
 pub rebuild-out-of-record : (label s payload : List ℕ) → let read = readingJob s label payload in
     (κs : Lfts 4) (a : ArgsD rebuild-fn.signature κs) (r : ResD rebuild-fn.signature κs) (e : AtExit (endedOf 4 rebuild-kinds.ps rebuild-kinds.r) κs)
     → rebuild-contract.Post κs a r e → r .refusal ≡ 0
@@ -135,6 +141,6 @@ pub rebuild-out-of-record : (label s payload : List ℕ) → let read = readingJ
     let numbers = now (a .1 .1 .1 .1 .1 .1 .0) in
     let picture = now (a .1 .1 .1 .1 .1 .1 .1 .0) in
     let room = now (a .1 .1 .1 .1 .1 .1 .1 .1 .0) in
-    Shown (journeyOf wanted label s payload (take area numbers) (take shown picture) (take shown room)) shown picture (now (e .1 .1 .1 .1 .1 .1 .1 .0)) (r .unfinished) (r .place)
+    Shown (journeyOf wanted label s payload (take area numbers) (take shown picture) (take shown room)) area shown numbers (now (e .1 .1 .1 .1 .1 .1 .0)) picture (now (e .1 .1 .1 .1 .1 .1 .1 .0)) (r .unfinished) (r .place)
 rebuild-out-of-record label s payload κs a r e x h k L n bytes b =
     rebuilding-out-of-record (a .0) label s payload _ _ _ _ (sym (λ i. rebuildingIn (a .0) (k i) (L i) (n i) (bytes i) (b i) (now (a .1 .1 .1 .1 .1 .1 .0)) (now (a .1 .1 .1 .1 .1 .1 .1 .0)) (now (a .1 .1 .1 .1 .1 .1 .1 .1 .0))) ∙ x) h

@@ -1,6 +1,6 @@
 -- What the desk's programs do with the bytes they are given: which picture a PGM holds, a picture made a record, and bits
--- made a picture or a thumbnail of it. The jobs follow one another, and the first refusal ends it.
-use mathlib.Core.Bool.{Bool, not, _&&_}
+-- made a picture, a softer one or a thumbnail of it. The jobs follow one another, and the first refusal ends it.
+use mathlib.Core.Bool.{Bool, true, false, not, _&&_}
 use mathlib.Core.List.{List, _++_}
 use Prim.Native.Nat.{ℕ, _+_, _-_, _^_}
 use lib.Dec.{leb, eqb}
@@ -9,12 +9,12 @@ use lib.ListN.{take, drop, length}
 use Rattle.paper.specs.Lists.{pick}
 use Rattle.paper.specs.Sizes.{unless, judged}
 use Rattle.paper.specs.Block.{Origin}
-use Rattle.paper.specs.Jobs.{Forward, forwardJob, Coding, codingJob, Writing, writingJob, Decoding, decodingJob, Inverse, inverseJob, thumbnailJob}
+use Rattle.paper.specs.Jobs.{forwardJob, codingJob, writingJob, decodingJob, Inverse, inverseJob, displayJob, thumbnailJob}
 use Rattle.pgm.specs.declared.Header.{Header}
 use Rattle.square_pgm.specs.Sides.{mostHeld, sideOf}
 use Rattle.desk.specs.declared.Found.{Found}
 use Rattle.desk.specs.declared.Wanted.{Wanted}
-use Rattle.desk.specs.declared.Wanted.the-variants.{Picture, Thumbnail}
+use Rattle.desk.specs.declared.Wanted.the-variants.{Picture, Softer, Thumbnail}
 
 -- the greys of a square up to the largest that is held; 0 beyond
 unfoldable pub areaOf : ℕ → ℕ
@@ -56,16 +56,24 @@ encodingOf k L o picture label limit numbers bytes room =
     (λ r. record { refusal = r; blocks = 0; numbers = f .numbers; bytes = c .bytes; room = room })
     (record { refusal = w .refusal; blocks = w .blocks; numbers = f .numbers; bytes = c .bytes; room = w .room }))
 
--- ---- bits made what is wanted: the picture, or a thumbnail of it
+-- ---- bits made what is wanted: the picture, a softer one, or a thumbnail of it
 -- how often its side was halved
 abbrev pub halvingsOf : Wanted → ℕ
 halvingsOf Picture = 0
+halvingsOf Softer = 0
 halvingsOf (Thumbnail r) = r
 
--- the job that makes it of the numbers
-abbrev pub shownJob : Wanted → ℕ → ℕ → List ℤ → List ℕ → List ℤ → Inverse
-shownJob Picture k L numbers picture room = inverseJob k L numbers picture room
-shownJob (Thumbnail r) k L numbers picture room = thumbnailJob k L r numbers picture room
+-- whether it is the softer picture
+abbrev pub wantsSofter : Wanted → Bool
+wantsSofter Picture = false
+wantsSofter Softer = true
+wantsSofter (Thumbnail r) = false
+
+-- the job that makes it of the numbers, where p planes are unfinished and the cut fell at `place`
+abbrev pub shownJob : Wanted → ℕ → ℕ → ℕ → ℕ → List ℤ → List ℕ → List ℤ → Inverse
+shownJob Picture k L p place numbers picture room = inverseJob k L numbers picture room
+shownJob Softer k L p place numbers picture room = displayJob k L p place numbers picture room
+shownJob (Thumbnail r) k L p place numbers picture room = thumbnailJob k L r numbers picture room
 
 pub record Rebuilding : Type 0 where
   pub refusal : ℕ
@@ -79,7 +87,7 @@ pub record Rebuilding : Type 0 where
 unfoldable pub rebuildingOf : Wanted → ℕ → ℕ → ℕ → List ℕ → ℕ → List ℤ → List ℕ → List ℤ → Rebuilding
 rebuildingOf wanted k L n bytes b numbers picture room =
     let d = decodingJob k L n numbers bytes b in
-    let i = shownJob wanted k L (d .numbers) picture room in
+    let i = shownJob wanted k L (d .unfinished) (d .place) (d .numbers) picture room in
     judged (d .refusal)
     (λ r. record { refusal = r; unfinished = d .unfinished; read = d .read; place = d .place; numbers = d .numbers; picture = picture; room = room })
     (record { refusal = i .refusal; unfinished = d .unfinished; read = d .read; place = d .place; numbers = d .numbers; picture = i .picture; room = i .room })

@@ -1,8 +1,8 @@
 // What the desk's programs do between reading and writing: which picture a PGM holds, a picture made a record, and bits
-// made a picture or a thumbnail of it. All memory is lent.
+// made a picture, a softer one or a thumbnail of it. All memory is lent.
 ghost use mathlib.Core.Path.{_≡_};
 ghost use Prim.Native.Nat.{_-_};
-ghost use Rattle.desk.specs.Desk.{areaOf, foundOf, encodingOf, encodingIn, halvingsOf, shownJob, rebuildingOf, rebuildingIn};
+ghost use Rattle.desk.specs.Desk.{areaOf, foundOf, encodingOf, encodingIn, halvingsOf, wantsSofter, shownJob, rebuildingOf, rebuildingIn};
 use decoding::Settled;
 use pgm::Header;
 use record::Blocks;
@@ -24,9 +24,10 @@ pub struct Found {
     pub k: u32,
 }
 
-// What is wanted of a record: its picture, or a thumbnail of it, with the side halved so often.
+// What is wanted of a record: its picture, a softer one for the eye, or a thumbnail of it, with the side halved so often.
 pub enum Wanted {
     Picture,
+    Softer,
     Thumbnail(u32),
 }
 
@@ -158,7 +159,19 @@ pub fn halvings(wanted: Wanted) -> u32
 {
     match wanted {
         Wanted::Picture => 0,
+        Wanted::Softer => 0,
         Wanted::Thumbnail(halvings) => halvings,
+    }
+}
+
+// Whether the softer picture is wanted.
+pub fn wants_softer(wanted: Wanted) -> bool
+    ensures { λ r. ⌜ r ≡ wantsSofter wanted ⌝ }
+{
+    match wanted {
+        Wanted::Picture => false,
+        Wanted::Softer => true,
+        Wanted::Thumbnail(_) => false,
     }
 }
 
@@ -169,19 +182,22 @@ fn shown_area(wanted: Wanted, k: u32) -> usize
     area(sizes::less(k, halvings(wanted)))
 }
 
-// The numbers made what is wanted.
+// The numbers made what is wanted, where so many planes are unfinished and the cut fell at `place`.
 fn shown(
     wanted: Wanted,
     k: u32,
     levels: u32,
+    unfinished: u32,
+    place: usize,
     numbers: &[i32],
     picture: &mut [u8],
     room: &mut [i32],
 ) -> u32
-    ensures { λ r. ⌜ shownJob wanted k levels (now (numbers .entry)) (now (picture .entry)) (now (room .entry)) ≡ record { refusal = r; picture = now (picture .exit); room = now (room .exit) } ⌝ }
+    ensures { λ r. ⌜ shownJob wanted k levels unfinished place (now (numbers .entry)) (now (picture .entry)) (now (room .entry)) ≡ record { refusal = r; picture = now (picture .exit); room = now (room .exit) } ⌝ }
 {
     match wanted {
         Wanted::Picture => label::inverse(k, levels, numbers, picture, room),
+        Wanted::Softer => label::display(k, levels, unfinished, place, numbers, picture, room),
         Wanted::Thumbnail(halvings) => {
             label::thumbnail(k, levels, halvings, numbers, picture, room)
         }
@@ -206,7 +222,16 @@ fn rebuilt(
     if settled.refusal != 0 {
         return settled;
     }
-    let refusal = shown(wanted, k, levels, numbers, picture, room);
+    let refusal = shown(
+        wanted,
+        k,
+        levels,
+        settled.unfinished,
+        settled.place,
+        numbers,
+        picture,
+        room,
+    );
     Settled {
         refusal,
         unfinished: settled.unfinished,

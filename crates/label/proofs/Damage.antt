@@ -8,11 +8,11 @@ use lib.IntN.{ℤ}
 use lib.ListN.{take}
 use Rattle.paper.specs.Sizes.{sizeIn}
 use Rattle.paper.specs.Block.{blockBytes}
-use Rattle.paper.specs.Jobs.{Read, readRefused, sizesRefusal, decodingRefusal, decodingJob, Inverse, inverseRefusal, inverseJob, thumbnailRefusal, thumbnailJob}
+use Rattle.paper.specs.Jobs.{Read, readRefused, sizesRefusal, Decoding, decodingRefusal, decodingJob, Inverse, inverseRefusal, inverseJob, displayRefusal, displayJob, thumbnailRefusal, thumbnailJob}
 use Rattle.check_laws.specs.Damage.{Caught}
 use Rattle.record_laws.specs.Damaged.{withBlock}
 use Rattle.record_laws.specs.ReadDamaged.{Comes, read-cut-there, first-damaged, later-damaged}
-use Rattle.label.specs.Journey.{Seen, seenBy, outOfRecord, thumbnailOutOfRecord}
+use Rattle.label.specs.Journey.{Seen, seenBy, outOfRecord, softerOutOfRecord, thumbnailOutOfRecord}
 
 -- block i of a record, to which the reading job comes, replaced by one that the check catches
 module _ (s label payload : List ℕ) (i : ℕ) (comes : Comes s label payload i) (block : List ℕ) (caught : Caught block) (numbers : List ℤ) (picture : List ℕ) (room : List ℤ) where
@@ -24,7 +24,11 @@ module _ (s label payload : List ℕ) (i : ℕ) (comes : Comes s label payload i
   unfolding outOfRecord sizeIn sizesRefusal decodingRefusal decodingJob inverseRefusal inverseJob
   block-0-damaged e = rw (first-damaged s label payload i comes block caught e) (refl, refl, refl)
 
-  -- nor is a thumbnail shown
+  -- nor is a softer picture shown, nor a thumbnail
+  pub softer-block-0-damaged : i ≡ 0 → softerOutOfRecord label (withBlock i block s) payload numbers picture room .rebuilt .picture ≡ picture
+  unfolding softerOutOfRecord sizeIn sizesRefusal displayRefusal displayJob
+  softer-block-0-damaged e = rw (first-damaged s label payload i comes block caught e)
+
   pub thumbnail-block-0-damaged : (r : ℕ) → i ≡ 0 → thumbnailOutOfRecord r label (withBlock i block s) payload numbers picture room .rebuilt .picture ≡ picture
   unfolding thumbnailOutOfRecord sizeIn sizesRefusal thumbnailRefusal thumbnailJob
   thumbnail-block-0-damaged r e = rw (first-damaged s label payload i comes block caught e)
@@ -40,14 +44,18 @@ module _ (s label payload : List ℕ) (i : ℕ) (comes : Comes s label payload i
         (ap (λ (r : Read). r .blocks) e, ap (λ (r : Read). r .ended) e)
 
     -- whatever job makes greys of what is decoded
-    shows-cut : (rebuilds : ℕ → ℕ → List ℤ → Inverse) → let d = seenBy rebuilds label (withBlock i block s) payload numbers in let c = seenBy rebuilds label (take (blockBytes * i) s) payload numbers in
+    shows-cut : (rebuilds : ℕ → ℕ → Decoding → Inverse) → let d = seenBy rebuilds label (withBlock i block s) payload numbers in let c = seenBy rebuilds label (take (blockBytes * i) s) payload numbers in
         (d .decoded ≡ c .decoded) × (d .rebuilt ≡ c .rebuilt)
     shows-cut rebuilds = rw (later-damaged s label payload i comes block caught some, read-cut-there s label payload i comes some) (refl, refl)
 
     pub damaged-shows-cut : (damaged .decoded ≡ cut .decoded) × (damaged .rebuilt ≡ cut .rebuilt)
     unfolding outOfRecord
-    damaged-shows-cut = shows-cut (λ k L decoded. inverseJob k L decoded picture room)
+    damaged-shows-cut = shows-cut (λ k L d. inverseJob k L (d .numbers) picture room)
+
+    pub softer-damaged-shows-cut : softerOutOfRecord label (withBlock i block s) payload numbers picture room .rebuilt ≡ softerOutOfRecord label (take (blockBytes * i) s) payload numbers picture room .rebuilt
+    unfolding softerOutOfRecord
+    softer-damaged-shows-cut = shows-cut (λ k L d. displayJob k L (d .unfinished) (d .place) (d .numbers) picture room) .1
 
     pub thumbnail-damaged-shows-cut : (r : ℕ) → thumbnailOutOfRecord r label (withBlock i block s) payload numbers picture room .rebuilt ≡ thumbnailOutOfRecord r label (take (blockBytes * i) s) payload numbers picture room .rebuilt
     unfolding thumbnailOutOfRecord
-    thumbnail-damaged-shows-cut r = shows-cut (λ k L decoded. thumbnailJob k L r decoded picture room) .1
+    thumbnail-damaged-shows-cut r = shows-cut (λ k L d. thumbnailJob k L r (d .numbers) picture room) .1

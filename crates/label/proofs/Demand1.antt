@@ -13,9 +13,9 @@ use borrow.Author.Tests.{leb-true, eq-eqb}
 use Rattle.paper.specs.Sizes.{unless}
 use Rattle.paper.specs.Block.{blockBytes, isLabel, Origin, checksRight, contentsRight, blockRefusal}
 use Rattle.paper.specs.Record.{wholeBlocks, blockAt, said, inTurn, turnRefusal}
-use Rattle.paper.specs.Jobs.{sizesRefusal, Forward, forwardRefusal, forwardJob, Coding, codingRefusal, codingJob, Decoding, decodingRefusal, decodingJob, Inverse, inverseRefusal, inverseJob, thumbnailRefusal, thumbnailJob, Writing, writingRefusal, writingJob, roomBytes, Read, lentRefusal, readingRefusal, readingJob, checkJob}
+use Rattle.paper.specs.Jobs.{sizesRefusal, Forward, forwardRefusal, forwardJob, Coding, codingRefusal, codingJob, Decoding, decodingRefusal, decodingJob, Inverse, inverseRefusal, inverseJob, displayRefusal, displayJob, thumbnailRefusal, thumbnailJob, Writing, writingRefusal, writingJob, roomBytes, Read, lentRefusal, readingRefusal, readingJob, checkJob}
 use Rattle.record_laws.specs.Ended.{whole-block}
-use Rattle.label.specs.Table.{Lowest, First, leavesSomething, Refuses, forwardRows, codingRows, decodingRows, inverseRows, thumbnailRows, writingRows, readingRows, checkRows}
+use Rattle.label.specs.Table.{Lowest, First, leavesSomething, Refuses, forwardRows, codingRows, decodingRows, inverseRows, displayRows, thumbnailRows, writingRows, readingRows, checkRows}
 use Rattle.label.proofs.Rows.{first, lowest, first-applies, judged-refuses}
 
 -- No refusal leaves anything behind.
@@ -45,6 +45,12 @@ pub inverse-refuses : (k L : ℕ) (numbers : List ℤ) (picture : List ℕ) (roo
     → Refuses Lowest (λ (a : Inverse). a .refusal) (inverseRows k L numbers picture room) (inverseJob k L numbers picture room) (λ r. record { refusal = r; picture = picture; room = room })
 unfolding inverseJob inverseRefusal sizesRefusal
 inverse-refuses k L numbers picture room = judged-refuses _ _ _ _ _ (λ r l. refl) (λ r. refl) refl Lowest _ refl (lowest 0 _ refl)
+
+-- ---- display
+pub display-refuses : (k L p place : ℕ) (numbers : List ℤ) (picture : List ℕ) (room : List ℤ)
+    → Refuses Lowest (λ (a : Inverse). a .refusal) (displayRows k L p place numbers picture room) (displayJob k L p place numbers picture room) (λ r. record { refusal = r; picture = picture; room = room })
+unfolding displayJob displayRefusal sizesRefusal
+display-refuses k L p place numbers picture room = judged-refuses _ _ _ _ _ (λ r l. refl) (λ r. refl) refl Lowest _ refl (lowest 0 _ refl)
 
 -- ---- thumbnail
 pub thumbnail-refuses : (k L r : ℕ) (numbers : List ℤ) (picture : List ℕ) (room : List ℤ)

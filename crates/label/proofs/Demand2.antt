@@ -1,6 +1,6 @@
 -- Demand 2. A whole record gives back the very picture. Any bits at all, cut anywhere, decode to exactly what the walk has
--- settled, zero for the rest, all of them written, with the true count of unfinished planes and the place where the cut fell. A thumbnail of a whole record is the low
--- band of the very picture.
+-- settled, zero for the rest, all of them written, with the true count of unfinished planes and the place where the cut fell. The
+-- softer picture of a whole record is the very picture too, and a thumbnail of it is the low band of the very picture.
 use mathlib.Core.Path.{_≡_, ap, _∙_}
 use mathlib.Core.Bool.{Bool, true}
 use mathlib.Core.List.{List, _++_}
@@ -13,10 +13,11 @@ use borrow.Author.Tests.{eq-eqb, le-leb}
 use Rattle.paper.specs.Sizes.{sizeIn, levelsIn, halvingsIn, planesIn}
 use Rattle.paper.specs.Square.{greysOf, pictured, lowGreysOf, thumbnailOf}
 use Rattle.paper.specs.Walk.{decodeOf, Settled}
+use Rattle.paper.specs.Softer.{softerOf}
 use Rattle.paper.specs.Bits.{bits, laid}
 use Rattle.paper.specs.Block.{blockBytes, Origin, givenBack}
 use Rattle.paper.specs.Record.{blocksFor}
-use Rattle.paper.specs.Jobs.{roomBytes, Decoding, decodingRefusal, settledJob, decodingJob, Writing, writtenOf, Inverse}
+use Rattle.paper.specs.Jobs.{roomBytes, Decoding, decodingRefusal, settledJob, decodingJob, Writing, writtenOf, Inverse, displayJob}
 use Rattle.sizes.proofs.Ranges.{levels-less}
 use Rattle.sizes.proofs.Refusals.{sizes-passed, done-is}
 use Rattle.bits.proofs.OneBit.{bits-length}
@@ -24,13 +25,14 @@ use Rattle.square_laws.specs.Picture.{lossless}
 use Rattle.square_laws.specs.Thumbnail.{thumbnail-whole}
 use Rattle.thumbnail.proofs.Refusals.{halvings-few}
 use Rattle.walk_laws.specs.Decoded.{all-bits}
+use Rattle.walk_laws.specs.Softer.{softened-none}
 use Rattle.walk_laws.specs.Place.{Placed, NeverBack, Stay, decoded-placed, first-never-back, first-stay}
 use Rattle.walk_laws.specs.Unfinished.{AllRead, planesRead, unfinished-true}
 use Rattle.record_laws.specs.BothJobs.{room-written}
 use Rattle.record_laws.specs.ReadBack.{bitsIn, every-bit}
-use Rattle.label.specs.Journey.{intoRecord, Seen, originSeen, outOfRecord, thumbnailOutOfRecord}
+use Rattle.label.specs.Journey.{intoRecord, Seen, originSeen, outOfRecord, softerOutOfRecord, thumbnailOutOfRecord}
 use Rattle.label.proofs.Way.{Known, written-all, accepted}
-use Rattle.label.proofs.Journeys.{Given, truth, n, code, truth-given, into-is, Opens, settled, rebuiltAs, out-is, thumbnail-out-is}
+use Rattle.label.proofs.Journeys.{display-taken, Given, truth, n, code, truth-given, into-is, Opens, settled, rebuiltAs, out-is, softer-out-is, thumbnail-out-is}
 
 -- ---- any bits at all
 pub any-bits : (k L n : ℕ) (numbers : List ℤ) (bytes : List ℕ) (b : ℕ) → sizeIn k ≡ true → levelsIn k L ≡ true → length numbers ≡ 4 ^ k → planesIn n ≡ true → b ≤ 8 * length bytes
@@ -51,6 +53,14 @@ any-bits-unfinished k L n numbers bytes b s l e p h r a =
 pub any-bits-placed : (k L n : ℕ) (numbers : List ℤ) (bytes : List ℕ) (b : ℕ) → sizeIn k ≡ true → levelsIn k L ≡ true → length numbers ≡ 4 ^ k → planesIn n ≡ true → b ≤ 8 * length bytes
     → let d = decodingJob k L n numbers bytes b in Placed (4 ^ k) (d .unfinished) (d .place)
 any-bits-placed k L n numbers bytes b s l e p h = rw (any-bits k L n numbers bytes b s l e p h) (decoded-placed k L n (levels-less k L l) (take b (bits bytes)))
+
+-- So no decoding is refused for display: not by its unfinished planes, nor by its place.
+pub any-bits-displayed : (k L n : ℕ) (numbers : List ℤ) (bytes : List ℕ) (b : ℕ) → sizeIn k ≡ true → levelsIn k L ≡ true → length numbers ≡ 4 ^ k → planesIn n ≡ true → b ≤ 8 * length bytes
+    → (picture : List ℕ) → length picture ≡ 4 ^ k → (room : List ℤ) → length room ≡ 4 ^ k
+    → let d = decodingJob k L n numbers bytes b in (displayJob k L (d .unfinished) (d .place) (d .numbers) picture room) .refusal ≡ 0
+unfolding displayJob
+any-bits-displayed k L n numbers bytes b s l e p h picture f room g =
+    rw (any-bits k L n numbers bytes b s l e p h) (ap (λ (i : Inverse). i .refusal) (done-is _ _ _ (display-taken k L n (take b (bits bytes)) s l p picture f room g)))
 
 -- More of the bits never move unfinished planes and place back.
 pub any-bits-never-back : (k L n : ℕ) (numbers : List ℤ) (bytes : List ℕ) (b c : ℕ) → sizeIn k ≡ true → levelsIn k L ≡ true → length numbers ≡ 4 ^ k → planesIn n ≡ true → b ≤ c → c ≤ 8 * length bytes
@@ -134,6 +144,16 @@ module _ (o : Origin) (k L : ℕ) (label picture : List ℕ) (limit : ℕ) (numb
         ap (λ (s : Seen). s .rebuilt) out ∙ ap {B = Inverse} (λ (s : Settled). rebuiltAs k (greysOf k L (s .numbers))) all-settled
             ∙ ap {B = Inverse} (λ (g : List ℕ). record { refusal = 0; picture = g; room = greysOf k L T }) back,
       )
+
+  -- Nothing of it is moved for display: the softer picture is the very picture too.
+  pub very-softer : (shown : List ℕ) → length shown ≡ 4 ^ k → (greys : List ℤ) → length greys ≡ 4 ^ k
+      → softerOutOfRecord label whole payload lent shown greys .rebuilt ≡ record { refusal = 0; picture = picture; room = greysOf k L T }
+  unfolding softerOf
+  very-softer shown e greys f =
+      ap (λ (s : Seen). s .rebuilt) (softer-out-is k L label picture G o (enough .from) limit numbers (enough .numbers-hold) bytes room fits (blockBytes * W .blocks) payload whole-opens lent (enough .lent-holds) shown e greys f)
+      ∙ ap {B = Inverse} (λ (s : Settled). rebuiltAs k (softerOf k L (s .unfinished) (s .place) (s .numbers))) all-settled
+      ∙ ap {B = Inverse} (λ (xs : List ℤ). rebuiltAs k (greysOf k L xs)) (softened-none 0 T)
+      ∙ ap {B = Inverse} (λ (g : List ℕ). record { refusal = 0; picture = g; room = greysOf k L T }) (lossless L k picture (omega (arith, levels-less k L (G .levels))) (G .square) (G .greys))
 
   -- With its side halved r times it is the r-level low band of the original, and 128, set into 0 to 255; before it is set, it is in the room.
   pub very-thumbnail : (r : ℕ) → halvingsIn L r ≡ true → (shown : List ℕ) → length shown ≡ 4 ^ (k - r) → (greys : List ℤ) → length greys ≡ 4 ^ (k - r)

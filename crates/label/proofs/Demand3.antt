@@ -99,14 +99,20 @@ module _ (k L : ℕ) (label picture : List ℕ) (given : Given k L label picture
   pub never-away : (b c i : ℕ) → b ≤ c → natAbs (at true-numbers i -ℤ at ((first c) .numbers) i) ≤ natAbs (at true-numbers i -ℤ at ((first b) .numbers) i)
   never-away = decoded-never-worse k L true-numbers (levels-less k L (given .levels)) N (truth-given k L label picture given .small)
 
+  -- The greys of any numbers that are off by at most 2 ^ p - 1, by the law of lines.
+  pub near-greys : (p : ℕ) (ys : List ℤ) → length ys ≡ 4 ^ k → ((z : ℕ) → Off (2 ^ p - 1) (at true-numbers z) (at ys z))
+      → (place : ℕ) → place < 4 ^ k → let seen = getD (pictured k (greysOf k L ys)) place 0 in
+      (seen ≤ getD picture place 0 + (7 * L + 1) * (2 ^ p - 1)) × (getD picture place 0 ≤ seen + (7 * L + 1) * (2 ^ p - 1))
+  near-greys p ys e near place h =
+      let less : L ≤ k = omega (arith, levels-less k L (given .levels)) in
+      let off = picture-near (2 ^ p - 1) L k true-numbers ys less N e (λ z g. near z) place h in
+      let back : getD (pictured k (greysOf k L true-numbers)) place 0 ≡ getD picture place 0 = ap (λ (g : List ℕ). getD g place 0) (lossless L k picture less (given .square) (given .greys)) in
+      (omega (arith, off .1, back), omega (arith, off .0, back))
+
   -- No grey is off by more than (7 L + 1) (2 ^ p - 1).
   pub grey-limit : (b place : ℕ) → place < 4 ^ k
       → (shows b place ≤ getD picture place 0 + (7 * L + 1) * (2 ^ (first b) .unfinished - 1)) × (getD picture place 0 ≤ shows b place + (7 * L + 1) * (2 ^ (first b) .unfinished - 1))
-  grey-limit b place h =
-      let less : L ≤ k = omega (arith, levels-less k L (given .levels)) in
-      let near = picture-near (2 ^ (first b) .unfinished - 1) L k true-numbers ((first b) .numbers) less N (decoded-length k L _ _) (λ z g. truthful-off _ _ _ (numbers-truthful b z)) place h in
-      let back : getD (pictured k (greysOf k L true-numbers)) place 0 ≡ getD picture place 0 = ap (λ (g : List ℕ). getD g place 0) (lossless L k picture less (given .square) (given .greys)) in
-      (omega (arith, near .1, back), omega (arith, near .0, back))
+  grey-limit b = near-greys ((first b) .unfinished) ((first b) .numbers) (decoded-length k L _ _) (λ z. truthful-off _ _ _ (numbers-truthful b z))
 
   -- Nor by more than the number that a person is told, which stops at 255.
   pub grey-limit-told : (b place : ℕ) → place < 4 ^ k

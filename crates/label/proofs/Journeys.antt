@@ -7,15 +7,16 @@ use Prim.Native.Nat.{ℕ, _*_, _-_, _/_, _^_, _≤_}
 use native.Mathlib.Omega.{arith}
 use lib.IntN.{ℤ}
 use lib.ListN.{length, take}
-use borrow.Author.Tests.{eq-eqb}
-use Rattle.paper.specs.Sizes.{sizeIn, levelsIn, halvingsIn}
+use borrow.Author.Tests.{eq-eqb, le-leb, lt-ltb}
+use Rattle.paper.specs.Sizes.{mostPlanes, sizeIn, levelsIn, halvingsIn, planesIn}
 use Rattle.paper.specs.Lists.{Bytes}
 use Rattle.paper.specs.Square.{numbersOf, greysOf, pictured, thumbnailOf}
 use Rattle.paper.specs.Walk.{planeCount, codeOf, decodeOf, Settled}
+use Rattle.paper.specs.Softer.{softerOf}
 use Rattle.paper.specs.Bits.{laid}
 use Rattle.paper.specs.Block.{blockBytes, Origin, isLabel}
 use Rattle.paper.specs.Record.{blocksFor}
-use Rattle.paper.specs.Jobs.{roomBytes, Forward, forwardRefusal, forwardJob, Coding, codingJob, writtenOf, Decoding, settledJob, decodingJob, Inverse, inverseRefusal, inverseJob, thumbnailRefusal, thumbnailJob, Writing, writingJob, Read, readingJob}
+use Rattle.paper.specs.Jobs.{roomBytes, Forward, forwardRefusal, forwardJob, Coding, codingJob, writtenOf, Decoding, settledJob, decodingJob, Inverse, pictureRefusal, inverseRefusal, inverseJob, displayRefusal, displayJob, thumbnailRefusal, thumbnailJob, Writing, writingJob, Read, readingJob}
 use Rattle.sizes.proofs.Ranges.{levels-few, levels-less, planes-few}
 use Rattle.sizes.proofs.Refusals.{sizes-passed, done-is}
 use Rattle.sizes.proofs.Numbers.{count-in}
@@ -23,9 +24,32 @@ use Rattle.square_laws.specs.Numbers.{numbers-in, length-numbers}
 use Rattle.square_laws.specs.Thumbnail.{first-in}
 use Rattle.record_laws.specs.ReadBack.{bitsIn, readBack}
 use Rattle.walk_laws.specs.Read.{decoded-length}
+use Rattle.walk_laws.specs.Place.{decoded-placed}
+use Rattle.walk_laws.specs.Unfinished.{unfinished-most}
 use Rattle.walk_laws.specs.Room.{decoded-in}
-use Rattle.label.specs.Journey.{intoRecord, Seen, seenBy, outOfRecord, thumbnailOutOfRecord}
+use Rattle.label.specs.Journey.{intoRecord, Seen, seenBy, outOfRecord, softerOutOfRecord, thumbnailOutOfRecord}
 use Rattle.label.proofs.Way.{Numbers, Known, coded, read, decoded}
+
+-- ---- whatever bits were decoded, no row of inverse and display applies to what they settle
+module _ (k L n : ℕ) (l : List Bool) (size : sizeIn k ≡ true) (levels : levelsIn k L ≡ true) (planes : planesIn n ≡ true) (picture : List ℕ) (picture-fits : length picture ≡ 4 ^ k) (room : List ℤ) (room-fits : length room ≡ 4 ^ k) where
+  abbrev d : Settled
+  d = decodeOf k L n l
+
+  pub picture-taken : (later : ℕ) → pictureRefusal k L (d .numbers) picture room later ≡ later
+  picture-taken later = sizes-passed k L _ size levels ∙ rw (
+    eq-eqb (length (d .numbers)) (4 ^ k) (decoded-length k L n l),
+    eq-eqb (length picture) (4 ^ k) picture-fits,
+    eq-eqb (length room) (4 ^ k) room-fits,
+    decoded-in k L n l (planes-few n planes),
+  )
+
+  few : planesIn (d .unfinished) ≡ true
+  unfolding planesIn
+  few = le-leb (d .unfinished) mostPlanes (omega (arith, unfinished-most k L n l, planes-few n planes))
+
+  pub display-taken : displayRefusal k L (d .unfinished) (d .place) (d .numbers) picture room ≡ 0
+  unfolding displayRefusal
+  display-taken = picture-taken _ ∙ rw (few, lt-ltb (d .place) (4 ^ k) (decoded-placed k L n (levels-less k L levels) l .below))
 
 -- greys made a picture of side 2 ^ k
 abbrev pub rebuiltAs : ℕ → List ℤ → Inverse
@@ -94,12 +118,12 @@ module _ (k L : ℕ) (label picture : List ℕ) (given : Given k L label picture
       settled = decodeOf k L n (take left code)
 
       -- whatever job makes greys of it
-      by-is : (rebuilds : ℕ → ℕ → List ℤ → Inverse) → seenBy rebuilds label (take m ((intoRecord k L o label picture limit numbers bytes room) .room)) payload lent
-          ≡ seenAs o k L n recorded payload (m / blockBytes) settled (rebuilds k L (settled .numbers))
+      by-is : (rebuilds : ℕ → ℕ → Decoding → Inverse) → seenBy rebuilds label (take m ((intoRecord k L o label picture limit numbers bytes room) .room)) payload lent
+          ≡ seenAs o k L n recorded payload (m / blockBytes) settled (rebuilds k L (settledJob settled))
       by-is rebuilds =
-          ap (λ (r : Read). let d = decodingJob (r .k) (r .L) (r .n) lent (r .room) (r .bits) in record { read = r; decoded = d; rebuilt = rebuilds (r .k) (r .L) (d .numbers) })
+          ap (λ (r : Read). let d = decodingJob (r .k) (r .L) (r .n) lent (r .room) (r .bits) in record { read = r; decoded = d; rebuilt = rebuilds (r .k) (r .L) d })
           (ap (λ (w : Writing). readingJob (take m (w .room)) label payload) into-is ∙ read k L truth truth-given limit bytes o from label (given .labelled) room room-fits m (opens .some) (opens .within) payload (opens .payload-fits))
-          ∙ ap (λ (d : Decoding). record { read = readBack o k L n recorded payload (m / blockBytes); decoded = d; rebuilt = rebuilds k L (d .numbers) })
+          ∙ ap (λ (d : Decoding). record { read = readBack o k L n recorded payload (m / blockBytes); decoded = d; rebuilt = rebuilds k L d })
           (decoded k L truth truth-given limit bytes o from label (given .labelled) room room-fits m (opens .some) (opens .within) payload (opens .payload-fits) lent lent-fits)
 
       -- the picture
@@ -107,19 +131,23 @@ module _ (k L : ℕ) (label picture : List ℕ) (given : Given k L label picture
           → outOfRecord label (take m ((intoRecord k L o label picture limit numbers bytes room) .room)) payload lent shown greys
           ≡ seenAs o k L n recorded payload (m / blockBytes) settled (rebuiltAs k (greysOf k L (settled .numbers)))
       unfolding outOfRecord inverseJob inverseRefusal
-      out-is shown e greys f = by-is (λ k L decoded. inverseJob k L decoded shown greys) ∙ ap {B = Seen} (seenAs o k L n recorded payload (m / blockBytes) settled) (done-is _ _ _ (sizes-passed k L _ (given .size) (given .levels) ∙ rw (
-        eq-eqb (length (settled .numbers)) (4 ^ k) (decoded-length k L n (take left code)),
-        eq-eqb (length shown) (4 ^ k) e,
-        eq-eqb (length greys) (4 ^ k) f,
-        decoded-in k L n (take left code) (planes-few n (count-in truth)),
-      )))
+      out-is shown e greys f = by-is (λ k L d. inverseJob k L (d .numbers) shown greys)
+          ∙ ap {B = Seen} (seenAs o k L n recorded payload (m / blockBytes) settled) (done-is _ _ _ (picture-taken k L n (take left code) (given .size) (given .levels) (count-in truth) shown e greys f 0))
+
+      -- the softer picture
+      pub softer-out-is : (shown : List ℕ) → length shown ≡ 4 ^ k → (greys : List ℤ) → length greys ≡ 4 ^ k
+          → softerOutOfRecord label (take m ((intoRecord k L o label picture limit numbers bytes room) .room)) payload lent shown greys
+          ≡ seenAs o k L n recorded payload (m / blockBytes) settled (rebuiltAs k (softerOf k L (settled .unfinished) (settled .place) (settled .numbers)))
+      unfolding softerOutOfRecord displayJob
+      softer-out-is shown e greys f = by-is (λ k L d. displayJob k L (d .unfinished) (d .place) (d .numbers) shown greys)
+          ∙ ap {B = Seen} (seenAs o k L n recorded payload (m / blockBytes) settled) (done-is _ _ _ (display-taken k L n (take left code) (given .size) (given .levels) (count-in truth) shown e greys f))
 
       -- a thumbnail
       pub thumbnail-out-is : (r : ℕ) → halvingsIn L r ≡ true → (shown : List ℕ) → length shown ≡ 4 ^ (k - r) → (greys : List ℤ) → length greys ≡ 4 ^ (k - r)
           → thumbnailOutOfRecord r label (take m ((intoRecord k L o label picture limit numbers bytes room) .room)) payload lent shown greys
           ≡ seenAs o k L n recorded payload (m / blockBytes) settled (rebuiltAs (k - r) (thumbnailOf k L r (settled .numbers)))
       unfolding thumbnailOutOfRecord thumbnailJob thumbnailRefusal
-      thumbnail-out-is r halves shown e greys f = by-is (λ k L decoded. thumbnailJob k L r decoded shown greys) ∙ ap {B = Seen} (seenAs o k L n recorded payload (m / blockBytes) settled) (done-is _ _ _ (sizes-passed k L _ (given .size) (given .levels) ∙ rw (
+      thumbnail-out-is r halves shown e greys f = by-is (λ k L d. thumbnailJob k L r (d .numbers) shown greys) ∙ ap {B = Seen} (seenAs o k L n recorded payload (m / blockBytes) settled) (done-is _ _ _ (sizes-passed k L _ (given .size) (given .levels) ∙ rw (
         halves,
         eq-eqb (length (settled .numbers)) (4 ^ k) (decoded-length k L n (take left code)),
         eq-eqb (length shown) (4 ^ (k - r)) e,

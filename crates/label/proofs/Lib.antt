@@ -6,5 +6,6 @@ pub mod Way
 pub mod Journeys
 pub mod Demand2
 pub mod Demand3
+pub mod Softer
 pub mod Thumbnails
 pub mod Damage

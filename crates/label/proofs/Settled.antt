@@ -9,7 +9,7 @@ use denote.Triple.Clauses.{AtExit}
 use contract.Lifetimes.{Lfts}
 use borrow.Fn.World.{ArgsD, ResD}
 use borrow.Fn.Kinds.{endedOf}
-use Rattle.paper.specs.Jobs.{Forward, forwardJob, Coding, codingJob, Decoding, decodingJob, Inverse, inverseJob, thumbnailJob, Writing, writingJob, Read, readingJob, checkJob}
+use Rattle.paper.specs.Jobs.{Forward, forwardJob, Coding, codingJob, Decoding, decodingJob, Inverse, inverseJob, displayJob, thumbnailJob, Writing, writingJob, Read, readingJob, checkJob}
 use Rattle.label.proofs.forward as forward-fn
 use Rattle.label.proofs.forward.Kinds as forward-kinds
 use Rattle.label.proofs.forward.Reads as forward-contract
@@ -22,6 +22,9 @@ use Rattle.label.proofs.decode.Reads as decode-contract
 use Rattle.label.proofs.inverse as inverse-fn
 use Rattle.label.proofs.inverse.Kinds as inverse-kinds
 use Rattle.label.proofs.inverse.Reads as inverse-contract
+use Rattle.label.proofs.display as display-fn
+use Rattle.label.proofs.display.Kinds as display-kinds
+use Rattle.label.proofs.display.Reads as display-contract
 use Rattle.label.proofs.thumbnail as thumbnail-fn
 use Rattle.label.proofs.thumbnail.Kinds as thumbnail-kinds
 use Rattle.label.proofs.thumbnail.Reads as thumbnail-contract
@@ -113,6 +116,24 @@ inverse-does κs a r s x = x
 
 pub inverse-settled : (κs : Lfts 3) → OneOutcome (inverse-contract.Post κs) (inverse-outcome κs)
 inverse-settled κs = one-outcome (inverse-contract.Post κs) (inverse-job κs) (inverse-outcome κs) (inverse-does κs)
+
+-- ---- display: the picture, and the working room
+abbrev pub display-job : (κs : Lfts 3) → ArgsD display-fn.signature κs → Inverse
+display-job κs a =
+    let lent = a .1 .1 .1 .1 in
+    displayJob (a .0) (a .1 .0) (a .1 .1 .0) (a .1 .1 .1 .0) (now (lent .0)) (now (lent .1 .0)) (now (lent .1 .1 .0))
+
+abbrev pub display-outcome : (κs : Lfts 3) → ResD display-fn.signature κs → AtExit (endedOf 3 display-kinds.ps display-kinds.r) κs → Inverse
+display-outcome κs r s = record { refusal = r; picture = now (s .1 .1 .1 .1 .1 .0); room = now (s .1 .1 .1 .1 .1 .1 .0) }
+
+pub display-takes : (κs : Lfts 3) → Takes (display-contract.Pre κs)
+display-takes κs a = tt
+
+pub display-does : (κs : Lfts 3) → Does (display-contract.Post κs) (display-job κs) (display-outcome κs)
+display-does κs a r s x = x
+
+pub display-settled : (κs : Lfts 3) → OneOutcome (display-contract.Post κs) (display-outcome κs)
+display-settled κs = one-outcome (display-contract.Post κs) (display-job κs) (display-outcome κs) (display-does κs)
 
 -- ---- thumbnail: the picture, and the working room
 abbrev pub thumbnail-job : (κs : Lfts 3) → ArgsD thumbnail-fn.signature κs → Inverse

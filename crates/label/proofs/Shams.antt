@@ -15,8 +15,8 @@ use Rattle.paper.specs.Walk.{bitOf}
 use Rattle.paper.specs.Bits.{bits, byteOf, packed, allZero}
 use Rattle.paper.specs.Block.{headerBytes, payloadBits, labelCharacter, labelCharacters, isLabel, sameBytes, plainSum, weighedSum, editionIn, startOf, header, named, sealed, namedOf, payloadOf, checksRight, originRight, fieldsRight, blockRefusal}
 use Rattle.paper.specs.Record.{madeBlock, blockOf, recordOf, said, inTurn, turnRefusal, runFrom, bitsKept, payloadKept}
-use Rattle.paper.specs.Jobs.{sizesRefusal, Forward, forwardJob, Decoding, inverseRefusal, inverseJob, roomBytes, Read, lentRefusal, readingRefusal, readingJob}
-use Rattle.paper.specs.Cases.{checked, last, zeros, cut, label417, edition1}
+use Rattle.paper.specs.Jobs.{sizesRefusal, Forward, forwardJob, Decoding, Inverse, inverseRefusal, inverseJob, roomBytes, Read, lentRefusal, readingRefusal, readingJob}
+use Rattle.paper.specs.Cases.{checked, last, zeros, cut, display, label417, edition1}
 
 -- one that refuses everything: P9's call is not refused
 pub refuses-everything : (r n : ℕ) (numbers : List ℤ) → 0 < r → forwardJob 3 2 (replicate 64 128) last ≡ record { refusal = r; n = n; numbers = numbers } → ⊥
@@ -47,6 +47,10 @@ never-placed contract = let z : _≡_ {A = ℕ} 1 0 = sym (ap (λ (a : Decoding)
 
 pub place-of-bits : (cut 3) .place ≡ 3 → ⊥
 place-of-bits contract = let z : _≡_ {A = ℕ} 1 3 = sym (ap (λ (a : Decoding). a .place) (checked .P5)) ∙ contract in omega arith
+
+-- a softer picture that is the plain one: of P5's cut, whose 4 is shown as 6, the first grey is 134 and not 132
+pub shown-plain : (let d = cut 3 in getD ((display (d .unfinished) (d .place) (d .numbers)) .picture) 0 0) ≡ 132 → ⊥
+shown-plain contract = let z : _≡_ {A = ℕ} 134 132 = sym (ap (λ (a : Inverse). getD (a .picture) 0 0) (checked .display-cut)) ∙ contract in omega arith
 
 -- a reader that uses block 0 and only nods at the others: a record of a full block and 8 bits more has a byte in its second block, so the count,
 -- the bits and the payload of block 0 alone are each refuted

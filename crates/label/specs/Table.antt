@@ -3,7 +3,7 @@ use mathlib.Core.Path.{_≡_}
 use mathlib.Core.Bool.{Bool, true, false, _&&_}
 use mathlib.Core.List.{List, [], _∷_, _++_, List·Memᴰ}
 use Prim.Native.Nat.{ℕ, _*_, _-_, _^_, _<_, _≤_}
-use lib.Dec.{leb, eqb}
+use lib.Dec.{leb, ltb, eqb}
 use lib.IntN.{ℤ}
 use lib.ListN.{length, take}
 use Rattle.paper.specs.Sizes.{sizeIn, levelsIn, halvingsIn, planesIn, numbersIn, mostBits}
@@ -57,6 +57,12 @@ abbrev pub inverseRows : ℕ → ℕ → List ℤ → List ℕ → List ℤ → 
 inverseRows k L numbers picture room =
     row 1 (sizeIn k) ∷ row 2 (levelsIn k L)
     ∷ row 3 (isSquare k (length numbers) && isSquare k (length picture) && isSquare k (length room)) ∷ row 4 (numbersIn numbers) ∷ []
+
+abbrev pub displayRows : ℕ → ℕ → ℕ → ℕ → List ℤ → List ℕ → List ℤ → List Row
+displayRows k L p place numbers picture room =
+    row 1 (sizeIn k) ∷ row 2 (levelsIn k L)
+    ∷ row 3 (isSquare k (length numbers) && isSquare k (length picture) && isSquare k (length room)) ∷ row 4 (numbersIn numbers)
+    ∷ row 5 (planesIn p) ∷ row 11 (ltb place (4 ^ k)) ∷ []
 
 -- 13 is judged after 2 and before 3
 abbrev pub thumbnailRows : ℕ → ℕ → ℕ → List ℤ → List ℕ → List ℤ → List Row

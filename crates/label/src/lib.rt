@@ -1,7 +1,7 @@
-// The face of the library: the eight jobs of the paper, each once, with its complete contract.
+// The face of the library: the nine jobs of the paper, each once, with its complete contract.
 //
-// A grey picture goes in by forward, code and write, and comes out by read, decode and inverse, or smaller by thumbnail;
-// check judges one block.
+// A grey picture goes in by forward, code and write, and comes out by read, decode and inverse, softer by display, or smaller by
+// thumbnail; check judges one block.
 // Every call takes whatever it is given and ends. `refusal` is 0, or the first row of the refusal table that applies, in the
 // order that the job names; a refused call answers 0 for all else and changes nothing that it was lent.
 //
@@ -9,7 +9,7 @@
 // the inputs, so it leaves nothing open (proofs/Settled.antt). The three demands are proofs/Demand1.antt, Demand2.antt
 // and Demand3.antt; docs/PROMISES.md follows them sentence by sentence.
 ghost use mathlib.Core.Path.{_≡_};
-ghost use Rattle.paper.specs.Jobs.{forwardJob, codingJob, decodingJob, inverseJob, thumbnailJob, writingJob, readingJob, checkJob};
+ghost use Rattle.paper.specs.Jobs.{forwardJob, codingJob, decodingJob, inverseJob, displayJob, thumbnailJob, writingJob, readingJob, checkJob};
 use coding::Written;
 use decoding::Settled;
 use record::Blocks;
@@ -46,6 +46,23 @@ pub fn inverse(k: u32, levels: u32, numbers: &[i32], picture: &mut [u8], room: &
     ensures { λ r. ⌜ inverseJob k levels (now (numbers .entry)) (now (picture .entry)) (now (room .entry)) ≡ record { refusal = r; picture = now (picture .exit); room = now (room .exit) } ⌝ }
 {
     transform::inverse(k, levels, numbers, picture, room)
+}
+
+// Fills the softer picture, for the eye alone: each number that isn't zero is shown moved up in magnitude by half of what is still
+// unknown about it, with p and the place that decode gave. The numbers stay as they are. The working room ends as with inverse.
+// Refusals 1, 2, 3, 4, 5 (p), 11 (a place of S² or more).
+pub fn display(
+    k: u32,
+    levels: u32,
+    unfinished: u32,
+    place: usize,
+    numbers: &[i32],
+    picture: &mut [u8],
+    room: &mut [i32],
+) -> u32
+    ensures { λ r. ⌜ displayJob k levels unfinished place (now (numbers .entry)) (now (picture .entry)) (now (room .entry)) ≡ record { refusal = r; picture = now (picture .exit); room = now (room .exit) } ⌝ }
+{
+    display::display(k, levels, unfinished, place, numbers, picture, room)
 }
 
 // Fills the picture with its side halved so many times, r, 1 to L, from the first (S / 2^r)² numbers alone; picture and room

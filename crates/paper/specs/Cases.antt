@@ -1,5 +1,5 @@
--- What was checked by hand: P1 to P11, one list under one claim, and with it thumbnails, whole blocks of both editions, the checks of
--- 508 bytes of 255, the label's leading zeros and the characters that it may have, and what edition 2 adds.
+-- What was checked by hand: P1 to P11, one list under one claim, and with it softer pictures, thumbnails, whole blocks of both
+-- editions, the checks of 508 bytes of 255, the label's leading zeros and the characters that it may have, and what edition 2 adds.
 -- Each is proved by computing what the definitions say.
 use mathlib.Core.Path.{_≡_, refl}
 use mathlib.Core.Bool.{Bool, true, false}
@@ -12,11 +12,12 @@ use Rattle.paper.specs.Lists.{made, joined}
 use Rattle.paper.specs.Line.{highOf, lowOf, highAt, lowAt, lineForward, oddOf, evenOf, evenAt, oddAt, woven, lineBack}
 use Rattle.paper.specs.Places.{interleaved, columnOf, rowOf, zOf, rasterOf}
 use Rattle.paper.specs.Square.{placeOf, lineOf, spotOf, line, along, levelForward, levelBack, onFirst, levelsForward, levelsBack, lowered, raised, grey, pictured, numbersOf, greysOf, lowBand, lowGreysOf, thumbnailOf}
-use Rattle.paper.specs.Walk.{bitOf, reaches, largest, bitsNeeded, planeCount, testSet, refined, begun, walkNumber, _next_, walkNumbers, walkSet, walkRest, walkPlane, walkPlanes, codeOf, decodeOf}
+use Rattle.paper.specs.Walk.{bitOf, reaches, largest, bitsNeeded, planeCount, testSet, refined, begun, walkNumber, _next_, walkNumbers, walkSet, walkRest, walkPlane, walkPlanes, codeOf, decodeOf, unreadAt}
+use Rattle.paper.specs.Softer.{halfOf, movedUp, softened, softerOf}
 use Rattle.paper.specs.Bits.{bits, byteOf, packed, laid, allZero}
 use Rattle.paper.specs.Block.{labelCharacter, labelCharacters, isLabel, sameBytes, Origin, editionIn, armIn, originIn, plainSum, weighedSum, startOf, payloadBytes, header, named, sealed, namedOf, payloadOf, checksRight, originRight, fieldsRight, blockRefusal}
 use Rattle.paper.specs.Record.{madeBlock, blocksFor, blockOf, recordOf, said, inTurn, turnRefusal, runFrom, bitsKept, payloadKept}
-use Rattle.paper.specs.Jobs.{sizesRefusal, forwardRefusal, forwardJob, Coding, codingRefusal, writtenOf, codingJob, Decoding, decodingRefusal, decodingJob, Inverse, thumbnailRefusal, thumbnailJob, writingRefusal, writingJob, lentRefusal, readingRefusal, readingJob}
+use Rattle.paper.specs.Jobs.{sizesRefusal, forwardRefusal, forwardJob, Coding, codingRefusal, writtenOf, codingJob, Decoding, decodingRefusal, decodingJob, Inverse, displayRefusal, displayJob, thumbnailRefusal, thumbnailJob, writingRefusal, writingJob, lentRefusal, readingRefusal, readingJob}
 use Rattle.paper.specs.First.{firstRefusal, firstInTurn, firstReading}
 
 -- ---- what is given
@@ -46,6 +47,10 @@ coded numbers bytes = codingJob 3 2 numbers whole bytes
 -- P3's bytes, of which the first b bits are decoded
 abbrev pub cut : ℕ → Decoding
 cut b = decodingJob 3 2 3 last (0xC0 ∷ 0x08 ∷ 0x00 ∷ []) b
+
+-- the softer picture of side 8, of two levels, into slices that hold another
+abbrev pub display : ℕ → ℕ → List ℤ → Inverse
+display p place numbers = displayJob 3 2 p place numbers (replicate 64 7) last
 
 -- the thumbnail of side 8 / 2 ^ r, of two levels, into slices that hold another
 abbrev pub thumbnail : ℕ → List ℤ → Inverse
@@ -116,6 +121,22 @@ pub record Checked : Type 0 where
   -- and of P8 cut at 0 to 19: a closed set of four settles them all, an open rest and an open set none
   pub places-closed : made 20 (λ b. (decodingJob 3 2 2 last (0x48 ∷ 0xC0 ∷ 0x40 ∷ []) b) .place) ≡ 0 ∷ 4 ∷ 4 ∷ 8 ∷ 12 ∷ 12 ∷ 13 ∷ 14 ∷ 15 ∷ 15 ∷ 16 ∷ 0 ∷ 4 ∷ 8 ∷ 12 ∷ 13 ∷ 14 ∷ 15 ∷ 16 ∷ 0 ∷ []
   pub P11 : zOf 3 (6 * 8 + 7) ≡ 61
+  -- with 3 planes unfinished 4 is half of what is unknown, and 2 before the place; zeros stay
+  pub softer : softened 3 4 (pos 8 ∷ negsuc 7 ∷ pos 0 ∷ pos 12 ∷ pos 8 ∷ negsuc 7 ∷ pos 0 ∷ []) ≡ pos 10 ∷ negsuc 9 ∷ pos 0 ∷ pos 14 ∷ pos 12 ∷ negsuc 11 ∷ pos 0 ∷ []
+  -- of one unread bit the half is 1; before the place then none is unread, nor anywhere where no plane is unfinished
+  pub softer-last : softened 1 1 (pos 5 ∷ pos 4 ∷ negsuc 3 ∷ []) ≡ pos 5 ∷ pos 5 ∷ negsuc 4 ∷ []
+  pub softer-none : softened 0 1 (pos 5 ∷ negsuc 3 ∷ []) ≡ pos 5 ∷ negsuc 3 ∷ []
+  -- numbers shown may pass the limit
+  pub softer-beyond : softened 18 0 (pos 262143 ∷ negsuc 262142 ∷ []) ≡ pos 393215 ∷ negsuc 393214 ∷ []
+  -- P5's cut, whose 4 is shown as 6: 6 4 3 1 along the first row and down the first column
+  pub display-cut : (let d = cut 3 in display (d .unfinished) (d .place) (d .numbers)) ≡ record {
+    refusal = 0;
+    picture = 134 ∷ 132 ∷ 131 ∷ 129 ∷ (replicate 4 128 ++ 132 ∷ 131 ∷ 130 ∷ 129 ∷ (replicate 4 128 ++ 131 ∷ 130 ∷ 129 ∷ (replicate 5 128 ++ 129 ∷ replicate 39 128)));
+    room = pos 134 ∷ pos 132 ∷ pos 132 ∷ pos 131 ∷ pos 131 ∷ pos 129 ∷ pos 130 ∷ pos 129 ∷ pos 131 ∷ pos 130 ∷ pos 129 ∷ pos 128 ∷ pos 129 ∷ replicate 51 (pos 128);
+  }
+  -- 4 before 5 before 11, which a place of S² is, with no plane unfinished too; 4 judges the stored numbers alone
+  pub display-order : (display 19 64 (pos 262144 ∷ zeros 63)) .refusal ∷ (display 19 64 (zeros 64)) .refusal ∷ (display 18 64 (zeros 64)) .refusal ∷ (display 0 64 (zeros 64)) .refusal ∷ (display 0 63 (zeros 64)) .refusal ∷ [] ≡ 4 ∷ 5 ∷ 11 ∷ 11 ∷ 0 ∷ []
+  pub display-stored : (display 18 0 (pos 262143 ∷ zeros 63)) .refusal ≡ 0
   -- one level of a single grey that differs, in row 0, column 2: low -1 3 0 0 along the row, then 0 3 0 0 down the columns
   pub low-band : lowGreysOf 3 1 (128 ∷ 128 ∷ 132 ∷ replicate 61 128) ≡ pos 128 ∷ pos 131 ∷ replicate 14 (pos 128)
   -- side 4: one level is left to undo; the last number, beyond the limit, is none of the first 16
@@ -173,5 +194,5 @@ pub record Checked : Type 0 where
   pub no-characters : inEachPlace (0x2F ∷ 0x3A ∷ 0x40 ∷ 0x5B ∷ 0x60 ∷ 0x61 ∷ 0x7A ∷ 0x7B ∷ 0x20 ∷ 0x00 ∷ 0xFF ∷ []) ≡ replicate 88 false
 
 pub checked : Checked
-unfolding sizeIn levelsIn halvingsIn planesIn numbersIn mostBits made joined editionIn armIn originIn startOf named namedOf originRight madeBlock said lentRefusal firstRefusal firstInTurn firstReading highOf lowOf highAt lowAt lineForward oddOf evenOf evenAt oddAt woven lineBack interleaved columnOf rowOf zOf rasterOf placeOf lineOf spotOf line along levelForward levelBack onFirst levelsForward levelsBack lowered raised grey pictured numbersOf greysOf lowBand lowGreysOf thumbnailOf bitOf reaches largest bitsNeeded planeCount testSet refined begun walkNumber _next_ walkNumbers walkSet walkRest walkPlane walkPlanes codeOf decodeOf bits byteOf packed laid allZero labelCharacter labelCharacters isLabel sameBytes plainSum weighedSum header sealed payloadOf checksRight fieldsRight blockRefusal blockOf recordOf inTurn turnRefusal runFrom bitsKept payloadKept sizesRefusal forwardRefusal forwardJob codingRefusal writtenOf codingJob decodingRefusal decodingJob thumbnailRefusal thumbnailJob writingRefusal writingJob readingRefusal readingJob
-checked = record { P1 = refl; P2 = refl; P3 = refl; P4 = refl; P5 = refl; P6 = refl; P7 = refl; P8 = refl; P9 = refl; P9-bits = refl; P9-planes = refl; P10 = refl; places = refl; places-closed = refl; P11 = refl; low-band = refl; thumbnail-early = refl; thumbnail-smallest = refl; thumbnail-beyond = refl; thumbnail-unhalved = refl; thumbnail-deep = refl; thumbnail-levels = refl; block = refl; label = refl; zeros-kept = refl; block-L6 = refl; label-L6 = refl; block-arm-2 = refl; label-arm-2 = refl; first-refuses = refl; first-reads-none = refl; first-reads = refl; first-limits = refl; first-ends = refl; editions = refl; arms = refl; mounts = refl; editions-checked = refl; arms-checked = refl; edition-before-room = refl; room-before-arm = refl; label-before-arm = refl; room-of-edition = refl; counts = refl; counts-2 = refl; block-counts = refl; agree = refl; disagree = refl; checks = refl; every-character = refl; characters = refl; no-characters = refl }
+unfolding sizeIn levelsIn halvingsIn planesIn numbersIn mostBits made joined editionIn armIn originIn startOf named namedOf originRight madeBlock said lentRefusal firstRefusal firstInTurn firstReading highOf lowOf highAt lowAt lineForward oddOf evenOf evenAt oddAt woven lineBack interleaved columnOf rowOf zOf rasterOf placeOf lineOf spotOf line along levelForward levelBack onFirst levelsForward levelsBack lowered raised grey pictured numbersOf greysOf lowBand lowGreysOf thumbnailOf bitOf reaches largest bitsNeeded planeCount testSet refined begun walkNumber _next_ walkNumbers walkSet walkRest walkPlane walkPlanes codeOf decodeOf unreadAt halfOf movedUp softened softerOf bits byteOf packed laid allZero labelCharacter labelCharacters isLabel sameBytes plainSum weighedSum header sealed payloadOf checksRight fieldsRight blockRefusal blockOf recordOf inTurn turnRefusal runFrom bitsKept payloadKept sizesRefusal forwardRefusal forwardJob codingRefusal writtenOf codingJob decodingRefusal decodingJob displayRefusal displayJob thumbnailRefusal thumbnailJob writingRefusal writingJob readingRefusal readingJob
+checked = record { P1 = refl; P2 = refl; P3 = refl; P4 = refl; P5 = refl; P6 = refl; P7 = refl; P8 = refl; P9 = refl; P9-bits = refl; P9-planes = refl; P10 = refl; places = refl; places-closed = refl; P11 = refl; softer = refl; softer-last = refl; softer-none = refl; softer-beyond = refl; display-cut = refl; display-order = refl; display-stored = refl; low-band = refl; thumbnail-early = refl; thumbnail-smallest = refl; thumbnail-beyond = refl; thumbnail-unhalved = refl; thumbnail-deep = refl; thumbnail-levels = refl; block = refl; label = refl; zeros-kept = refl; block-L6 = refl; label-L6 = refl; block-arm-2 = refl; label-arm-2 = refl; first-refuses = refl; first-reads-none = refl; first-reads = refl; first-limits = refl; first-ends = refl; editions = refl; arms = refl; mounts = refl; editions-checked = refl; arms-checked = refl; edition-before-room = refl; room-before-arm = refl; label-before-arm = refl; room-of-edition = refl; counts = refl; counts-2 = refl; block-counts = refl; agree = refl; disagree = refl; checks = refl; every-character = refl; characters = refl; no-characters = refl }

@@ -1,21 +1,22 @@
--- The eight jobs. Each definition gives, for every input, the refusal's number and everything that the job answers and
+-- The nine jobs. Each definition gives, for every input, the refusal's number and everything that the job answers and
 -- leaves in each lent place. Rows of the refusal table stand in the order in which they are judged: lowest number first, but 13
 -- between 2 and 3, and of the writer's two rows 9 the edition's before 6.
 use mathlib.Core.Bool.{Bool, _&&_}
 use mathlib.Core.List.{List}
 use Prim.Native.Nat.{ℕ, _*_, _-_, _^_, min}
-use lib.Dec.{leb, eqb}
+use lib.Dec.{leb, ltb, eqb}
 use lib.IntN.{ℤ}
 use lib.ListN.{length, take}
 use Rattle.paper.specs.Sizes.{sizeIn, levelsIn, halvingsIn, planesIn, numbersIn, mostBits, unless, judged}
 use Rattle.paper.specs.Lists.{over}
 use Rattle.paper.specs.Square.{numbersOf, greysOf, pictured, thumbnailOf}
 use Rattle.paper.specs.Walk.{planeCount, codeOf, decodeOf, Settled}
+use Rattle.paper.specs.Softer.{softerOf}
 use Rattle.paper.specs.Bits.{bits, laid}
 use Rattle.paper.specs.Block.{isLabel, Origin, editionIn, originIn, byteAt, blockBytes, headerBytes, startOf, payloadBytes, editionOf, armOf, mountOf, blockRefusal}
 use Rattle.paper.specs.Record.{blocksFor, recordOf, wholeBlocks, refusalAt, Run, runOf, bitsKept, payloadKept}
 
--- rows 1 and 2, which six jobs judge first
+-- rows 1 and 2, which seven jobs judge first
 unfoldable pub sizesRefusal : ℕ → ℕ → ℕ → ℕ
 sizesRefusal k L later = unless 1 (sizeIn k) (unless 2 (levelsIn k L) later)
 
@@ -91,16 +92,32 @@ pub record Inverse : Type 0 where
   pub picture : List ℕ
   pub room : List ℤ
 
-unfoldable pub inverseRefusal : ℕ → ℕ → List ℤ → List ℕ → List ℤ → ℕ
-inverseRefusal k L numbers picture room =
+-- rows 1 to 4, which display judges first too
+abbrev pub pictureRefusal : ℕ → ℕ → List ℤ → List ℕ → List ℤ → ℕ → ℕ
+pictureRefusal k L numbers picture room later =
     sizesRefusal k L
-    (unless 3 (isSquare k (length numbers) && isSquare k (length picture) && isSquare k (length room)) (unless 4 (numbersIn numbers) 0))
+    (unless 3 (isSquare k (length numbers) && isSquare k (length picture) && isSquare k (length room)) (unless 4 (numbersIn numbers) later))
+
+unfoldable pub inverseRefusal : ℕ → ℕ → List ℤ → List ℕ → List ℤ → ℕ
+inverseRefusal k L numbers picture room = pictureRefusal k L numbers picture room 0
 
 unfoldable pub inverseJob : ℕ → ℕ → List ℤ → List ℕ → List ℤ → Inverse
 inverseJob k L numbers picture room =
     judged (inverseRefusal k L numbers picture room)
     (λ r. record { refusal = r; picture = picture; room = room })
     (record { refusal = 0; picture = pictured k (greysOf k L numbers); room = greysOf k L numbers })
+
+-- ---- display: fills the softer picture where p planes are unfinished and the cut fell at `place`; answers and leaves as the inverse
+-- 4 judges the stored numbers alone; a place of S² or more is 11, with p = 0 too
+unfoldable pub displayRefusal : ℕ → ℕ → ℕ → ℕ → List ℤ → List ℕ → List ℤ → ℕ
+displayRefusal k L p place numbers picture room =
+    pictureRefusal k L numbers picture room (unless 5 (planesIn p) (unless 11 (ltb place (4 ^ k)) 0))
+
+unfoldable pub displayJob : ℕ → ℕ → ℕ → ℕ → List ℤ → List ℕ → List ℤ → Inverse
+displayJob k L p place numbers picture room =
+    judged (displayRefusal k L p place numbers picture room)
+    (λ r. record { refusal = r; picture = picture; room = room })
+    (record { refusal = 0; picture = pictured k (softerOf k L p place numbers); room = softerOf k L p place numbers })
 
 -- ---- thumbnail: fills the picture of side S / 2 ^ r from the first (S / 2 ^ r)² numbers; answers and leaves what the inverse does
 -- rows 3 and 4: the numbers are S², the picture and the room are the thumbnail's; numbers behind the first ones are not judged

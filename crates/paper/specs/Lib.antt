@@ -5,6 +5,7 @@ pub mod Line
 pub mod Places
 pub mod Square
 pub mod Walk
+pub mod Softer
 pub mod Bits
 pub mod Block
 pub mod Record

@@ -20,8 +20,8 @@ use Rattle.square_pgm.proofs.ReadBack.{HeadersReadBack, header-read-back, heade
 use Rattle.words.specs.Line.{on, _puts_, figure}
 use Rattle.words.proofs.Laws.{either, putsAll, oneText, lengths, one-text-length, puts-all}
 use Rattle.words.proofs.Decimal.{decimal-length}
-use Rattle.worth.specs.Worth.{word, sideOf, ofThumbnail}
-use Rattle.worth.proofs.Laws.{AtMost, word-length, thumbnail-length}
+use Rattle.worth.specs.Worth.{word, sideOf, ofThumbnail, isSofter, ofSofter}
+use Rattle.worth.proofs.Laws.{AtMost, word-length, thumbnail-length, softer-length, side-length, limit-length}
 use Rattle.promise.specs.Promise.{of255, promiseOf, promiseText}
 
 -- ---- no line end in it
@@ -79,15 +79,20 @@ thumbnail-line : (r : ℕ) (text : List ℕ) → isOneLine text ≡ true → isO
 unfolding ofThumbnail
 thumbnail-line r text h = either OneLine (eqb r 0) _ _ nothing-more h
 
+softer-line : (softer : Bool) (p : ℕ) → isOneLine (ofSofter softer p) ≡ true
+unfolding ofSofter isOneLine isLineEnd
+softer-line softer p = either OneLine (isSofter softer p) _ _ refl refl
+
 -- the texts of the promise
-texts : List ℕ → ℕ → ℕ → ℕ → ℕ → ℕ → List (List ℕ)
-texts label k L r p blocks =
-    label ∷ ascii " " ∷ word p ∷ ascii ", p = " ∷ figure p ∷ ofThumbnail r (ascii ", thumbnail from side ") ∷ ofThumbnail r (figure (sideOf k))
+texts : List ℕ → ℕ → ℕ → ℕ → Bool → ℕ → ℕ → List (List ℕ)
+texts label k L r softer p blocks =
+    label ∷ ascii " " ∷ word p ∷ ascii ", p = " ∷ figure p ∷ ofSofter softer p
+    ∷ ofThumbnail r (ascii ", thumbnail from side ") ∷ ofThumbnail r (figure (sideOf k))
     ∷ ascii ", no grey off by more than " ∷ figure (greyLimit (L - r) p) ∷ of255 blocks ∷ []
 
-promise-texts : (label : List ℕ) (k L r p blocks : ℕ) → promiseText label k L r p blocks ≡ oneText (texts label k L r p blocks)
+promise-texts : (label : List ℕ) (k L r : ℕ) (softer : Bool) (p blocks : ℕ) → promiseText label k L r softer p blocks ≡ oneText (texts label k L r softer p blocks)
 unfolding promiseText oneText texts
-promise-texts label k L r p blocks = rw (append-nil (of255 blocks))
+promise-texts label k L r softer p blocks = rw (append-nil (of255 blocks))
 
 -- texts of one line are one line
 all-lines : List (List ℕ) → Bool
@@ -99,45 +104,45 @@ unfolding all-lines oneText
 one-text-line [] h = nothing-more
 one-text-line (text ∷ more) h = both-lines text (oneText more) (both-first (isOneLine text) (all-lines more) h) (one-text-line more (both-second (isOneLine text) (all-lines more) h))
 
-module _ (label : List ℕ) (k L r p blocks : ℕ) (named : isLabel label ≡ true) where
+module _ (label : List ℕ) (k L r : ℕ) (softer : Bool) (p blocks : ℕ) (named : isLabel label ≡ true) where
   label-line : isOneLine label ≡ true
   unfolding isLabel
   label-line = characters-line label (both-second (eqb (length label) 8) (labelCharacters label) named)
 
-  texts-lines : all-lines (texts label k L r p blocks) ≡ true
+  texts-lines : all-lines (texts label k L r softer p blocks) ≡ true
   unfolding all-lines texts isOneLine isLineEnd
   texts-lines =
-      rw (label-line, word-line p, figure-line 20 p, thumbnail-line r (ascii ", thumbnail from side ") refl, thumbnail-line r (figure (sideOf k)) (figure-line 20 (sideOf k)), figure-line 20 (greyLimit (L - r) p), of255-line blocks)
+      rw (label-line, word-line p, figure-line 20 p, softer-line softer p, thumbnail-line r (ascii ", thumbnail from side ") refl, thumbnail-line r (figure (sideOf k)) (figure-line 20 (sideOf k)), figure-line 20 (greyLimit (L - r) p), of255-line blocks)
 
-  pub promise-one-line : isOneLine (promiseText label k L r p blocks) ≡ true
-  promise-one-line = rw (promise-texts label k L r p blocks) (one-text-line (texts label k L r p blocks) texts-lines)
+  pub promise-one-line : isOneLine (promiseText label k L r softer p blocks) ≡ true
+  promise-one-line = rw (promise-texts label k L r softer p blocks) (one-text-line (texts label k L r softer p blocks) texts-lines)
 
   -- the header is read back with it, at every side that is shown
-  pub promise-read-back : (raster : List ℕ) → HeadersReadBack (promiseText label k L r p blocks) raster
-  promise-read-back raster = header-read-back (promiseText label k L r p blocks) raster promise-one-line
+  pub promise-read-back : (raster : List ℕ) → HeadersReadBack (promiseText label k L r softer p blocks) raster
+  promise-read-back raster = header-read-back (promiseText label k L r softer p blocks) raster promise-one-line
 
 -- ---- all of it is there
 of255-length : (blocks : ℕ) → length (of255 blocks) ≤ 23
 unfolding of255
 of255-length blocks = either (AtMost 23) (leb blocks 1) _ _ (omega arith) (omega arith)
 
-module _ (label : List ℕ) (k L r p blocks : ℕ) where
-  texts-length : length (oneText (texts label k L r p blocks)) ≤ length label + 144
+module _ (label : List ℕ) (k L r : ℕ) (softer : Bool) (p blocks : ℕ) where
+  texts-length : length (oneText (texts label k L r softer p blocks)) ≤ length label + 118
   unfolding texts lengths
   texts-length =
-      omega (arith, one-text-length (texts label k L r p blocks), word-length p, decimal-length 20 p, thumbnail-length r (ascii ", thumbnail from side "), thumbnail-length r (figure (sideOf k)), decimal-length 20 (sideOf k), decimal-length 20 (greyLimit (L - r) p), of255-length blocks)
+      omega (arith, one-text-length (texts label k L r softer p blocks), word-length p, decimal-length 20 p, softer-length softer p, thumbnail-length r (ascii ", thumbnail from side "), thumbnail-length r (figure (sideOf k)), side-length k, limit-length (L - r) p, of255-length blocks)
 
   module _ (bytes : List ℕ) (short : length label ≤ 8) where
     -- in room of 160 bytes the promise of a label is put as one text
-    pub promise-there : 160 ≤ length bytes → promiseOf label k L r p blocks (on bytes 0) ≡ on bytes 0 puts promiseText label k L r p blocks
+    pub promise-there : 160 ≤ length bytes → promiseOf label k L r softer p blocks (on bytes 0) ≡ on bytes 0 puts promiseText label k L r softer p blocks
     unfolding promiseOf putsAll texts
     promise-there room =
-        let long : 0 + length (oneText (texts label k L r p blocks)) ≤ length bytes = omega (arith, texts-length) in
-        puts-all (texts label k L r p blocks) bytes 0 long ∙ ap (λ (text : List ℕ). on bytes 0 puts text) (sym (promise-texts label k L r p blocks))
+        let long : 0 + length (oneText (texts label k L r softer p blocks)) ≤ length bytes = omega (arith, texts-length) in
+        puts-all (texts label k L r softer p blocks) bytes 0 long ∙ ap (λ (text : List ℕ). on bytes 0 puts text) (sym (promise-texts label k L r softer p blocks))
 
     -- and in room of 208 bytes the header with it is the text that is read back, at the side 2 ^ j of what is shown
     pub header-with-promise : (j : ℕ) → shownSize j ≡ true → 208 ≤ length bytes
-        → headed j (promiseText label k L r p blocks) (on bytes 0) ≡ on bytes 0 puts headerText j (promiseText label k L r p blocks)
+        → headed j (promiseText label k L r softer p blocks) (on bytes 0) ≡ on bytes 0 puts headerText j (promiseText label k L r softer p blocks)
     header-with-promise j shown room =
-        let promise = promiseText label k L r p blocks in
-        header-put j promise bytes shown (omega (arith, header-room j promise, ap length (promise-texts label k L r p blocks), texts-length))
+        let promise = promiseText label k L r softer p blocks in
+        header-put j promise bytes shown (omega (arith, header-room j promise, ap length (promise-texts label k L r softer p blocks), texts-length))

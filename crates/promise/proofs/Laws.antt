@@ -1,5 +1,6 @@
 -- The end of the promise, by what the code tests; and that it ends within its room.
 use mathlib.Core.Path.{_≡_, refl}
+use mathlib.Core.Bool.{Bool}
 use mathlib.Core.List.{List}
 use Prim.Native.Nat.{ℕ}
 use native.Mathlib.Omega.{arith}
@@ -15,8 +16,8 @@ unfolding of255
 of255-is blocks = refl
 
 -- ---- what is said ends within its room, so that it can be lent on
-pub promise-inside : (bytes label : List ℕ) (k L r p blocks : ℕ) → Inside (promiseOf label k L r p blocks (on bytes 0))
+pub promise-inside : (bytes label : List ℕ) (k L r : ℕ) (softer : Bool) (p blocks : ℕ) → Inside (promiseOf label k L r softer p blocks (on bytes 0))
 unfolding promiseOf
-promise-inside bytes label k L r p blocks =
+promise-inside bytes label k L r softer p blocks =
     let h : Inside (on bytes 0) = omega arith in
-    puts-inside _ _ (puts-inside _ _ (puts-inside _ _ (puts-inside _ _ (puts-inside _ _ (puts-inside _ _ (puts-inside _ _ (puts-inside _ _ (puts-inside _ _ (puts-inside (on bytes 0) _ h)))))))))
+    puts-inside _ _ (puts-inside _ _ (puts-inside _ _ (puts-inside _ _ (puts-inside _ _ (puts-inside _ _ (puts-inside _ _ (puts-inside _ _ (puts-inside _ _ (puts-inside _ _ (puts-inside (on bytes 0) _ h))))))))))

@@ -14,5 +14,5 @@ use Rattle.promise.proofs.promise.Reads as promise-contract
 
 pub promise-says : (κs : Lfts 2) (a : ArgsD promise-fn.signature κs) (r : ResD promise-fn.signature κs) (s : AtExit (endedAt 2 promise-kinds.ps promise-kinds.r) κs)
     → promise-contract.Post κs a r s
-    → promiseOf (now (a .0)) (a .1 .0) (a .1 .1 .0) (a .1 .1 .1 .0) (a .1 .1 .1 .1 .0) (a .1 .1 .1 .1 .1 .0) (on (now (a .1 .1 .1 .1 .1 .1 .0)) 0) ≡ on (now (s .1 .1 .1 .1 .1 .1 .0)) r
+    → promiseOf (now (a .0)) (a .1 .0) (a .1 .1 .0) (a .1 .1 .1 .0) (a .1 .1 .1 .1 .0) (a .1 .1 .1 .1 .1 .0) (a .1 .1 .1 .1 .1 .1 .0) (on (now (a .1 .1 .1 .1 .1 .1 .1 .0)) 0) ≡ on (now (s .1 .1 .1 .1 .1 .1 .1 .0)) r
 promise-says κs a r s x = x .0

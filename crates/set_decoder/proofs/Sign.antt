@@ -1,22 +1,20 @@
 -- Signed 32-bit numbers that take a plane's weight.
-use mathlib.Core.Path.{_≡_, refl, sym, ap, _∙_, subst}
+use mathlib.Core.Path.{_≡_, sym, ap, _∙_, subst}
 use mathlib.Core.Bool.{Bool, true, false}
 use Prim.Native.Nat.{ℕ, suc, _+_, _^_, _<_, _≤_}
 use native.Mathlib.Omega.{arith}
 use native.Mathlib.Nat.{pow-succ'}
 use lib.Pow.{pow-pos}
-use lib.IntN.{ℤ, pos, negsuc, negℤ, natAbs, _+ℤ_, _-ℤ_}
-use lib.Signed.{ltZ}
+use lib.IntN.{ℤ, pos, natAbs, _-ℤ_}
 use mir.Syntax.{w32}
 use mir.Val.{SFits, toZ, ofZ}
-use mir.Facts.{toZ-pos}
 use Rattle.paper.specs.Sizes.{mostPlanes, numberLimit}
-use Rattle.paper.specs.Walk.{negative, signed}
-use Rattle.integer_laws.specs.Difference.{_⊖_, pos-⊖, negsuc-⊖}
-use Rattle.integer_laws.specs.Order.{Within, ints, zarith}
+use Rattle.paper.specs.Walk.{signed}
+use Rattle.integer_laws.specs.Difference.{_⊖_, pos-⊖}
+use Rattle.integer_laws.specs.Order.{Within}
 use Rattle.integer_laws.specs.Machine.{within-fits, read}
 use Rattle.walk_laws.specs.Cleared.{natAbs-signed}
-use Rattle.scan.proofs.Sign.{sign-is}
+use Rattle.sizes.proofs.Growing.{weight, downward}
 
 -- a machine number as the proofs have it
 abbrev pub kept : ℤ → ℤ
@@ -36,43 +34,15 @@ is-fits {z} {y} I = subst (SFits w32) (sym (I .is)) (within-fits (within y (I .s
 pub is-kept : {z y : ℤ} → Is z y → kept z ≡ y
 is-kept {z} {y} I = ap kept (I .is) ∙ read (within y (I .small)) tt
 
-weight : (t : ℕ) → t < 2 ^ mostPlanes → toZ w32 t ≡ pos t
-weight t h = let z : t < 2 ^ 31 = omega arith in toZ-pos w32 z
-
--- ---- a number below 0 goes down, another up
-downward : (x y z : ℤ) (a t : ℕ) → x ≡ 0 ⊖ a → y ≡ t ⊖ 0 → z ≡ (a + t) ⊖ 0 → x -ℤ y ≡ negℤ z
-downward x y z a t e f g = rw (e, f, g) (simp ints (omega zarith))
-
-module _ (x : ℤ) (t : ℕ) (h : natAbs x + t < 2 ^ mostPlanes) where
-  whole : Within numberLimit x
-  whole = record { size = omega arith }
-
-  small-sum : natAbs (signed (negative x) (natAbs x + t)) < 2 ^ mostPlanes
-  small-sum = omega (arith, natAbs-signed (negative x) (natAbs x + t))
-
-  pub down : ltZ (kept x) (pos 0) ≡ true → Is (kept x -ℤ toZ w32 t) (signed (negative x) (natAbs x + t))
-  down e = record { is = (λ i. read whole tt i -ℤ weight t (omega arith) i) ∙ go x (sym (sign-is x whole) ∙ e); small = small-sum }
-    where
-      go : (x : ℤ) → negative x ≡ true → x -ℤ pos t ≡ signed (negative x) (natAbs x + t)
-      go (pos n) e = absurd (let z : _≡_ {A = ℕ} 0 1 = cc in omega arith)
-      go (negsuc n) e = downward (negsuc n) (pos t) (pos (suc n + t)) (n + 1) t (negsuc-⊖ n) (pos-⊖ t) (pos-⊖ (suc n + t) ∙ ap (λ k. k ⊖ 0) (let z : suc n + t ≡ n + 1 + t = omega arith in z))
-
-  pub up : ltZ (kept x) (pos 0) ≡ false → Is (kept x +ℤ toZ w32 t) (signed (negative x) (natAbs x + t))
-  up e = record { is = (λ i. read whole tt i +ℤ weight t (omega arith) i) ∙ go x (sym (sign-is x whole) ∙ e); small = small-sum }
-    where
-      go : (x : ℤ) → negative x ≡ false → x +ℤ pos t ≡ signed (negative x) (natAbs x + t)
-      go (pos n) e = refl
-      go (negsuc n) e = absurd (let z : _≡_ {A = ℕ} 0 1 = cc in omega arith)
-
 -- ---- a number begun
 pub below : (s : Bool) (t : ℕ) → t < 2 ^ mostPlanes → s ≡ true → Is (pos 0 -ℤ toZ w32 t) (signed s t)
 below s t h e = record {
-  is = ap (λ z. pos 0 -ℤ z) (weight t h) ∙ downward (pos 0) (pos t) (pos t) 0 t (pos-⊖ 0) (pos-⊖ t) (pos-⊖ t ∙ ap (λ k. k ⊖ 0) (let z : t ≡ 0 + t = omega arith in z)) ∙ ap (λ s. signed s t) (sym e);
+  is = ap (λ z. pos 0 -ℤ z) (weight t (omega arith)) ∙ downward (pos 0) (pos t) (pos t) 0 t (pos-⊖ 0) (pos-⊖ t) (pos-⊖ t ∙ ap (λ k. k ⊖ 0) (let z : t ≡ 0 + t = omega arith in z)) ∙ ap (λ s. signed s t) (sym e);
   small = omega (arith, natAbs-signed s t);
 }
 
 pub above : (s : Bool) (t : ℕ) → t < 2 ^ mostPlanes → s ≡ false → toZ w32 t ≡ signed s t
-above s t h e = weight t h ∙ ap (λ s. signed s t) (sym e)
+above s t h e = weight t (omega arith) ∙ ap (λ s. signed s t) (sym e)
 
 -- ---- a number that leaves room for 2 ^ suc p
 module _ (x : ℤ) (p : ℕ) (h : natAbs x + 2 ^ suc p ≤ 2 ^ mostPlanes) where
@@ -85,8 +55,8 @@ module _ (x : ℤ) (p : ℕ) (h : natAbs x + 2 ^ suc p ≤ 2 ^ mostPlanes) where
   pub passes : Within numberLimit (kept x)
   passes = rw held (within x (omega (arith, pow-pos (suc p))))
 
-  pub takes-kept : (t : ℕ) → t ≡ 2 ^ p → natAbs (kept x) + t < 2 ^ mostPlanes
-  takes-kept t e = rw held (takes t e)
+  pub takes-kept : (t : ℕ) → t ≡ 2 ^ p → natAbs (kept x) + t < 2 ^ 31
+  takes-kept t e = rw held (omega (arith, takes t e))
 
 -- a number made of sign and magnitude comes back from its bits
 pub kept-signed : (r : ℤ) (s : Bool) (m : ℕ) → r ≡ signed s m → m < 2 ^ mostPlanes → kept r ≡ signed s m

@@ -5,7 +5,7 @@ ghost use Prim.Native.Nat.{suc, _+_, _^_, _<_, _≤_};
 ghost use lib.IntN.{natAbs};
 ghost use lib.ListN.{length};
 ghost use Rattle.paper.specs.Sizes.{mostPlanes};
-ghost use Rattle.paper.specs.Walk.{negative, signed, Decoder, testSet, walkNumber, walkNumbers, walkSet};
+ghost use Rattle.paper.specs.Walk.{signed, Decoder, testSet, walkNumber, walkNumbers, walkSet};
 ghost use Rattle.walk_laws.specs.Room.{Room};
 ghost use Rattle.shapes.specs.Shapes.{IsSet};
 ghost use Rattle.set_decoder.specs.Walked.{Source, Walked, behindBit};
@@ -65,15 +65,6 @@ pub fn read_test(numbers: &[i32], p: u32, bytes: &[u8], b: usize, here: Here) ->
     }
 }
 
-// A number of 2T or more with a 1 more.
-fn grown(x: i32, t: u32) -> i32
-    requires { ⌜ natAbs x + t < 2 ^ mostPlanes ⌝ }
-    ensures { λ r. ⌜ r ≡ signed (negative x) (natAbs x + t) ⌝ }
-{
-    let v = t as i32;
-    if x < 0 { x - v } else { x + v }
-}
-
 // A number found to be T or more, by its sign bit.
 fn begun(below: bool, t: u32) -> i32
     requires { ⌜ t < 2 ^ mostPlanes ⌝ }
@@ -104,7 +95,7 @@ fn read_number(x: i32, p: u32, bytes: &[u8], b: usize, here: Here) -> Number
         return Number { x: x, here: still };
     }
     if m >= 2 * t {
-        let y = grown(x, t);
+        let y = sizes::grown(x, t);
         let more = behind_bit(b, a, here.place, 1);
         return Number { x: y, here: more };
     }

@@ -40,18 +40,28 @@ pub sizes-left : (k L later : ℕ) → sizesRefusal k L later ≡ 0 → later �
 unfolding sizesRefusal
 sizes-left k L later e = rows-left 1 (levelsIn k L) later (rows-left 0 (sizeIn k) (unless 2 (levelsIn k L) later) e)
 
--- rows 1 and 2 alone decide, or leave it to the later ones
-pub sizes-stand : (k L later : ℕ) → 0 < sizesRefusal k L 0 → sizesRefusal k L later ≡ sizesRefusal k L 0
+-- rows that alone decide, or leave it to the later ones
+pub record Rows (f : ℕ → ℕ) : Type 0 where
+  pub stand : (later : ℕ) → 0 < f 0 → f later ≡ f 0
+  pub leave : (later : ℕ) → f 0 ≡ 0 → f later ≡ later
+  pub passed : (later : ℕ) → f later ≡ 0 → f 0 ≡ 0
+
+pub no-row : Rows (λ later. later)
+no-row = record { stand = λ later h. absurd (omega arith); leave = λ later e. refl; passed = λ later e. refl }
+
+pub one-row : (r : ℕ) (b : Bool) {f : ℕ → ℕ} → Rows f → Rows (λ later. unless (suc r) b (f later))
+one-row r true R = R
+one-row r false R = record { stand = λ later h. refl; leave = λ later e. absurd (let z : suc r ≡ 0 = e in omega arith); passed = λ later e. e }
+
+pub sizes-rows : (k L : ℕ) {f : ℕ → ℕ} → Rows f → Rows (λ later. sizesRefusal k L (f later))
 unfolding sizesRefusal
-sizes-stand k L later h = go (sizeIn k) (levelsIn k L) h
-  where
-    go : (s l : Bool) → 0 < unless 1 s (unless 2 l 0) → unless 1 s (unless 2 l later) ≡ unless 1 s (unless 2 l 0)
-    go true true h = absurd (omega arith)
-    go true false h = refl
-    go false l h = refl
+sizes-rows k L R = one-row 0 (sizeIn k) (one-row 1 (levelsIn k L) R)
+
+pub sizes-stand : (k L later : ℕ) → 0 < sizesRefusal k L 0 → sizesRefusal k L later ≡ sizesRefusal k L 0
+sizes-stand k L = sizes-rows k L no-row .stand
 
 pub sizes-leave : (k L later : ℕ) → sizesRefusal k L 0 ≡ 0 → sizesRefusal k L later ≡ later
-sizes-leave k L later e = sizes-passed k L later (size-accepted k L 0 e) (levels-accepted k L 0 e)
+sizes-leave k L = sizes-rows k L no-row .leave
 
 -- a job refused, and a job done
 pub refused-is : {A : Type 0} (r : ℕ) (refused : ℕ → A) (done : A) → 0 < r → judged r refused done ≡ refused r

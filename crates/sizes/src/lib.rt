@@ -1,12 +1,12 @@
 // The paper's sizes and limits: which sides, levels, planes and numbers are in range, and what follows from them.
 ghost use mathlib.Core.Path.{_≡_};
 ghost use mathlib.Core.Bool.{true};
-ghost use Prim.Native.Nat.{ℕ, _+_, _*_, _-_, _/_, _^_, _≤_, max};
+ghost use Prim.Native.Nat.{_+_, _*_, _-_, _/_, _^_, _<_, _≤_, max};
 ghost use lib.Dec.{leb};
 ghost use lib.IntN.{natAbs};
 ghost use Rattle.integer_laws.specs.Order.{Within};
 ghost use Rattle.paper.specs.Sizes.{mostSize, sizeIn, levelsIn, planesIn, numbersIn, numberLimit, mostPlanes, mostBits, greyLimit};
-ghost use Rattle.paper.specs.Walk.{largest, bitsNeeded, planeCount};
+ghost use Rattle.paper.specs.Walk.{negative, signed, largest, bitsNeeded, planeCount};
 ghost use Rattle.paper.specs.Jobs.{sizesRefusal};
 
 // The least and the largest k of a side 2^k.
@@ -126,6 +126,15 @@ pub fn magnitude(x: i32) -> u32
     ensures { λ r. ⌜ r ≡ natAbs x ⌝ }
 {
     if x < 0 { (0 - x) as u32 } else { x as u32 }
+}
+
+// A number with so much more in magnitude, its sign kept.
+pub fn grown(x: i32, more: u32) -> i32
+    requires { ⌜ natAbs x + more < 2 ^ 31 ⌝ }
+    ensures { λ r. ⌜ r ≡ signed (negative x) (natAbs x + more) ⌝ }
+{
+    let v = more as i32;
+    if x < 0 { x - v } else { x + v }
 }
 
 // The largest magnitude.

@@ -13,19 +13,18 @@ use Rattle.paper.specs.Sizes.{mostLevels, numberLimit, numbersIn}
 use Rattle.paper.specs.Lists.{Bytes}
 use Rattle.paper.specs.Places.{rasterOf}
 use Rattle.paper.specs.Line.{lineForward}
-use Rattle.paper.specs.Square.{levelsForward, levelsBack, lowered, raised, numbersOf, greysOf}
+use Rattle.paper.specs.Square.{levelsForward, lowered, raised, numbersOf, greysOf}
 use Rattle.integer_laws.specs.Difference.{sub-⊖}
 use Rattle.integer_laws.specs.Order.{Within, zarith}
 use Rattle.sizes.proofs.Ranges.{both-first, both-second}
 use Rattle.lift.proofs.Steps.{grow, zero-within}
-use Rattle.line.specs.Each.{Each, lineLimit}
+use Rattle.line.specs.Each.{Each}
 use Rattle.line.specs.Rule.{Rule}
 use Rattle.list_laws.specs.Made.{length-made}
 use Rattle.line.proofs.Sized.{each-made}
 use Rattle.line.proofs.FiveThree.{fiveThree}
 use Rattle.square_laws.specs.Undone.{length-levels}
 use Rattle.square_laws.specs.Sizes.{levels-each}
-use Rattle.square_laws.specs.Range.{levels-range, grown-most}
 
 -- ---- no number beyond the limit
 pub in-each : (xs : List ℤ) → numbersIn xs ≡ true → Each numberLimit xs
@@ -67,7 +66,3 @@ length-numbers L k picture = length-levels lineForward L k _ (length-lowered k p
 pub length-greys : (k L : ℕ) (numbers : List ℤ) → length (greysOf k L numbers) ≡ 4 ^ k
 unfolding greysOf raised
 length-greys k L numbers = length-made (4 ^ k) _
-
--- (7 L + 1) times the limit is little enough for a line
-pub backs-each : (R : Rule) (L k : ℕ) (numbers : List ℤ) → L ≤ mostLevels → L ≤ k → length numbers ≡ 4 ^ k → numbersIn numbers ≡ true → Each lineLimit (levelsBack (R .back) L k numbers)
-backs-each R L k numbers l h e N z = grow (levels-range R numberLimit L k numbers h e (in-each numbers N) z) (omega (arith, grown-most numberLimit L mostLevels l))

@@ -1,4 +1,4 @@
--- How arm and mount are named, and when more blocks are expected, by what the code tests.
+-- Which titles are long, how arm and mount are named, and when more blocks are expected, by what the code tests.
 use mathlib.Core.Path.{_≡_, refl, ap, _∙_}
 use mathlib.Core.Bool.{Bool, true, false}
 use Prim.Native.Nat.{ℕ, _*_, _/_, _%_, _<_, _≤_}
@@ -11,16 +11,27 @@ use Rattle.paper.specs.Block.{Origin, startOf, payloadBits}
 use Rattle.block.proofs.Editions.{start-most}
 use Rattle.pgm.specs.Ascii.{ascii}
 use Rattle.words.specs.Line.{Line, _puts_, figure}
-use Rattle.title.specs.Title.{colon, shotBy, awaits}
+use Rattle.worth.specs.Worth.{isSofter}
+use Rattle.title.specs.Title.{isLong, colon, shotBy, awaits}
+
+-- long by the one word or by the other
+module _ (r : ℕ) (softer : Bool) (p : ℕ) where
+  pub long-softer : r ≡ 0 → isSofter softer p ≡ isLong r softer p
+  unfolding isLong
+  long-softer e = rw (eq-eqb r 0 e)
+
+  pub long-thumbnail : (r ≡ 0 → ⊥) → true ≡ isLong r softer p
+  unfolding isLong
+  long-thumbnail h = rw (ne-eqb r 0 h)
 
 -- arm and mount are named, or left out, and then the title ends
-module _ (r : ℕ) (o : Origin) (line last : Line) where
-  pub origin-unsaid : o .edition ≡ 1 → line puts ascii ": " ≡ last → shotBy r o line ≡ last
+module _ (long : Bool) (o : Origin) (line last : Line) where
+  pub origin-unsaid : o .edition ≡ 1 → line puts ascii ": " ≡ last → shotBy long o line ≡ last
   unfolding shotBy
   origin-unsaid e h = rw (eq-eqb (o .edition) 1 e) h
 
   pub origin-said : (o .edition ≡ 1 → ⊥) → (shot : Line) → line puts ascii ", arm " puts figure (o .arm) puts ascii ", mount " puts figure (o .mount) ≡ shot
-      → shot puts pick (eqb r 0) (ascii ": ") (ascii ":\n  ") ≡ last → shotBy r o line ≡ last
+      → shot puts pick long (ascii ":\n  ") (ascii ": ") ≡ last → shotBy long o line ≡ last
   unfolding shotBy colon
   origin-said e shot s h = rw (ne-eqb (o .edition) 1 e, s) h
 

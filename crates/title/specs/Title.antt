@@ -1,5 +1,6 @@
--- The title of what decode says: the verdict, the label, the side, arm and mount, and the blocks that were kept.
-use mathlib.Core.Bool.{Bool, not, _&&_}
+-- The title of what decode says: the verdict, the label, whether it is a thumbnail or softer, the side, arm and mount, and the blocks
+-- that were kept.
+use mathlib.Core.Bool.{Bool, not, _&&_, _||_}
 use mathlib.Core.List.{List}
 use Prim.Native.Nat.{ℕ, _*_, _-_}
 use lib.Dec.{eqb}
@@ -7,23 +8,27 @@ use Rattle.paper.specs.Lists.{pick}
 use Rattle.paper.specs.Block.{Origin, unnamed, startOf, payloadBits}
 use Rattle.pgm.specs.Ascii.{ascii}
 use Rattle.words.specs.Line.{Line, _puts_, figure}
-use Rattle.worth.specs.Worth.{word, sideOf, ofThumbnail}
+use Rattle.worth.specs.Worth.{word, sideOf, ofThumbnail, isSofter, ofSofter}
 
--- "CUT 00000417, side 64", "CUT 00000417, thumbnail, side 16 of 64"
-unfoldable pub titled : List ℕ → ℕ → ℕ → ℕ → Line → Line
-titled label k r p line =
-    line puts word p puts ascii " " puts label puts ofThumbnail r (ascii ", thumbnail") puts ascii ", side " puts figure (sideOf (k - r))
-    puts ofThumbnail r (ascii " of ") puts ofThumbnail r (figure (sideOf k))
+-- "CUT 00000417, side 64", "CUT 00000417, softer, side 64", "CUT 00000417, thumbnail, side 16 of 64"
+unfoldable pub titled : List ℕ → ℕ → ℕ → Bool → ℕ → Line → Line
+titled label k r softer p line =
+    line puts word p puts ascii " " puts label puts ofThumbnail r (ascii ", thumbnail") puts ofSofter softer p
+    puts ascii ", side " puts figure (sideOf (k - r)) puts ofThumbnail r (ascii " of ") puts ofThumbnail r (figure (sideOf k))
 
--- behind a thumbnail's title, which is long, a new line begins
-unfoldable pub colon : ℕ → List ℕ
-colon r = pick (eqb r 0) (ascii ": ") (ascii ":\n  ")
+-- whether the title is long: a thumbnail's or a softer picture's
+unfoldable pub isLong : ℕ → Bool → ℕ → Bool
+isLong r softer p = not (eqb r 0) || isSofter softer p
+
+-- behind a long title a new line begins
+unfoldable pub colon : Bool → List ℕ
+colon long = pick long (ascii ":\n  ") (ascii ": ")
 
 -- ": ", and in edition 2 ", arm 1, mount 70123: "
-unfoldable pub shotBy : ℕ → Origin → Line → Line
-shotBy r o line =
+unfoldable pub shotBy : Bool → Origin → Line → Line
+shotBy long o line =
     pick (unnamed (o .edition)) (line puts ascii ": ")
-    (line puts ascii ", arm " puts figure (o .arm) puts ascii ", mount " puts figure (o .mount) puts colon r)
+    (line puts ascii ", arm " puts figure (o .arm) puts ascii ", mount " puts figure (o .mount) puts colon long)
 
 -- more blocks were expected: planes are unfinished, and the last block kept is full, as only the last of a record need not be
 unfoldable pub awaits : ℕ → ℕ → ℕ → ℕ → Bool

@@ -10,9 +10,9 @@ use borrow.Author.Tests.{eqb-true}
 use Rattle.paper.specs.Sizes.{mostSize, mostLevels, sizeIn, levelsIn, numbersIn, unless, judged}
 use Rattle.paper.specs.Square.{numbersOf, greysOf, pictured}
 use Rattle.paper.specs.Walk.{planeCount}
-use Rattle.paper.specs.Jobs.{sizesRefusal, isSquare, forwardRefusal, forwardJob, inverseRefusal, inverseJob}
+use Rattle.paper.specs.Jobs.{sizesRefusal, isSquare, forwardRefusal, forwardJob, pictureRefusal, inverseRefusal, inverseJob}
 use Rattle.sizes.proofs.Ranges.{both-first, both-second, size-high, levels-few, levels-less}
-use Rattle.sizes.proofs.Refusals.{row-passed, rows-left, size-accepted, levels-accepted, sizes-left, sizes-stand, sizes-leave, refused-is, done-is}
+use Rattle.sizes.proofs.Refusals.{row-passed, rows-left, size-accepted, levels-accepted, sizes-left, Rows, no-row, one-row, sizes-rows, sizes-stand, sizes-leave, refused-is, done-is}
 
 -- ---- rows 1 and 2, as judged by `sizes_refusal`
 pub sizes-refused : (k L later r : ℕ) → r ≡ sizesRefusal k L 0 → 0 < r → r ≡ sizesRefusal k L later
@@ -67,6 +67,10 @@ squares-are k j numbers picture room e =
       eqb-true picture (4 ^ j) (both-second (isSquare k numbers) (isSquare j picture) first),
       eqb-true room (4 ^ j) (both-second (isSquare k numbers && isSquare j picture) (isSquare j room) e),
     )
+
+-- rows 1 to 4
+pub picture-rows : (k L : ℕ) (numbers : List ℤ) (picture : List ℕ) (room : List ℤ) → Rows (pictureRefusal k L numbers picture room)
+picture-rows k L numbers picture room = sizes-rows k L (one-row 2 (isSquare k (length numbers) && isSquare k (length picture) && isSquare k (length room)) (one-row 3 (numbersIn numbers) no-row))
 
 module _ (k L : ℕ) (numbers : List ℤ) (picture : List ℕ) (room : List ℤ) (r : ℕ) (e : r ≡ inverseRefusal k L numbers picture room) (h : r ≤ 0) where
   abbrev lengths : Bool

@@ -7,6 +7,8 @@ ghost use lib.ListN.{length};
 ghost use Rattle.paper.specs.Sizes.{mostSize, mostLevels, sizeIn, levelsIn, numbersIn};
 ghost use Rattle.paper.specs.Square.{numbersOf, greysOf, pictured};
 ghost use Rattle.paper.specs.Jobs.{isSquare, forwardRefusal, forwardJob, inverseRefusal, inverseJob};
+ghost use Rattle.square_laws.specs.Near.{grown};
+ghost use Rattle.levels.specs.Level.{Fitting};
 
 // What the job forward answers: why it refused, or 0, and the plane count n.
 #[repr(C)]
@@ -47,7 +49,7 @@ pub fn squares(k: u32, j: u32, numbers: usize, picture: usize, room: usize) -> b
 }
 
 // Refusals 1, 2, 3 and 4, lowest first, or 0.
-fn inverse_refusal(k: u32, levels: u32, numbers: &[i32], picture: &[u8], room: &[i32]) -> u32
+pub fn inverse_refusal(k: u32, levels: u32, numbers: &[i32], picture: &[u8], room: &[i32]) -> u32
     ensures { λ r. ⌜ r ≡ inverseRefusal k levels (now (numbers .entry)) (now (picture .entry)) (now (room .entry)) ⌝ }
 {
     let r = sizes::sizes_refusal(k, levels);
@@ -73,19 +75,20 @@ fn to_numbers(k: u32, levels: u32, picture: &[u8], numbers: &mut [i32])
     levels::forward(k, levels, numbers);
 }
 
-// The greys of wavelet numbers, in Z order. Of a thumbnail too: its side may be smaller than a picture's, and no level be left.
-fn to_greys(k: u32, levels: u32, numbers: &[i32], room: &mut [i32])
+// The picture of the numbers in the room, which ends with its greys before they are set into 0 to 255. Of a thumbnail too: its side
+// may be smaller than a picture's, and no level be left.
+pub fn show(k: u32, levels: u32, picture: &mut [u8], room: &mut [i32])
     requires { ⌜ k ≤ mostSize ⌝ }
-    requires { ⌜ levels ≤ mostLevels ⌝ }
     requires { ⌜ levels ≤ k ⌝ }
-    requires { ⌜ length (now numbers) ≡ 4 ^ k ⌝ }
-    requires { ⌜ numbersIn (now numbers) ≡ true ⌝ }
+    requires { ⌜ length (now picture) ≡ 4 ^ k ⌝ }
     requires { ⌜ length (now room) ≡ 4 ^ k ⌝ }
-    ensures { λ _. ⌜ now (room .exit) ≡ greysOf k levels (now (numbers .entry)) ⌝ }
+    requires { ⌜ Fitting grown levels (now room) ⌝ }
+    ensures { λ _. ⌜ now (picture .exit) ≡ pictured k (greysOf k levels (now (room .entry))) ⌝ }
+    ensures { λ _. ⌜ now (room .exit) ≡ greysOf k levels (now (room .entry)) ⌝ }
 {
-    picture::copy(numbers, room);
     levels::back(k, levels, room);
     picture::raise(room);
+    picture::set_picture(k, room, picture);
 }
 
 // The picture of wavelet numbers, and in the room its greys before they are set into 0 to 255.
@@ -100,8 +103,8 @@ pub fn rebuild(k: u32, levels: u32, numbers: &[i32], picture: &mut [u8], room: &
     ensures { λ _. ⌜ now (picture .exit) ≡ pictured k (greysOf k levels (now (numbers .entry))) ⌝ }
     ensures { λ _. ⌜ now (room .exit) ≡ greysOf k levels (now (numbers .entry)) ⌝ }
 {
-    to_greys(k, levels, numbers, room);
-    picture::set_picture(k, room, picture);
+    picture::copy(numbers, room);
+    show(k, levels, picture, room);
 }
 
 // Fills the wavelet numbers, gives n.

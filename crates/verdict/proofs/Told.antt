@@ -14,6 +14,6 @@ use Rattle.verdict.proofs.report.Reads as report-contract
 
 pub report-says : (κs : Lfts 3) (a : ArgsD report-fn.signature κs) (r : ResD report-fn.signature κs) (s : AtExit (endedAt 3 report-kinds.ps report-kinds.r) κs)
     → report-contract.Post κs a r s
-    → reportOf (now (a .0)) (a .1 .0) (a .1 .1 .0) (a .1 .1 .1 .0) (record { edition = a .1 .1 .1 .1 .0; arm = a .1 .1 .1 .1 .1 .0; mount = a .1 .1 .1 .1 .1 .1 .0 }) (a .1 .1 .1 .1 .1 .1 .1 .0) (a .1 .1 .1 .1 .1 .1 .1 .1 .0) (a .1 .1 .1 .1 .1 .1 .1 .1 .1 .0) (a .1 .1 .1 .1 .1 .1 .1 .1 .1 .1 .0) (a .1 .1 .1 .1 .1 .1 .1 .1 .1 .1 .1 .0) (now (a .1 .1 .1 .1 .1 .1 .1 .1 .1 .1 .1 .1 .0)) (on (now (a .1 .1 .1 .1 .1 .1 .1 .1 .1 .1 .1 .1 .1 .0)) 0)
-    ≡ on (now (s .1 .1 .1 .1 .1 .1 .1 .1 .1 .1 .1 .1 .1 .0)) r
+    → reportOf (now (a .0)) (a .1 .0) (a .1 .1 .0) (a .1 .1 .1 .0) (a .1 .1 .1 .1 .0) (record { edition = a .1 .1 .1 .1 .1 .0; arm = a .1 .1 .1 .1 .1 .1 .0; mount = a .1 .1 .1 .1 .1 .1 .1 .0 }) (a .1 .1 .1 .1 .1 .1 .1 .1 .0) (a .1 .1 .1 .1 .1 .1 .1 .1 .1 .0) (a .1 .1 .1 .1 .1 .1 .1 .1 .1 .1 .0) (a .1 .1 .1 .1 .1 .1 .1 .1 .1 .1 .1 .0) (a .1 .1 .1 .1 .1 .1 .1 .1 .1 .1 .1 .1 .0) (now (a .1 .1 .1 .1 .1 .1 .1 .1 .1 .1 .1 .1 .1 .0)) (on (now (a .1 .1 .1 .1 .1 .1 .1 .1 .1 .1 .1 .1 .1 .1 .0)) 0)
+    ≡ on (now (s .1 .1 .1 .1 .1 .1 .1 .1 .1 .1 .1 .1 .1 .1 .0)) r
 report-says κs a r s x = x

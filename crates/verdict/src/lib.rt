@@ -1,9 +1,10 @@
 // What decode says of a picture, or of a thumbnail, as lines in lent room: the verdict first, then what it is worth. Halvings, how
-// often a thumbnail's side was halved, are 0 for the picture itself.
+// often a thumbnail's side was halved, are 0 for the picture itself; softer says that a softer one was asked for.
 ghost use mathlib.Core.Path.{_≡_};
 ghost use Rattle.words.specs.Line.{on};
 ghost use Rattle.verdict.specs.Verdict.{shareOf, running, planes, reportOf};
 use sizes::less;
+use title::is_long;
 use title::put_blocks;
 use title::put_origin;
 use title::put_title;
@@ -76,6 +77,7 @@ pub fn report(
     k: u32,
     levels: u32,
     halvings: u32,
+    softer: bool,
     edition: u32,
     arm: u32,
     mount: u32,
@@ -87,10 +89,11 @@ pub fn report(
     ended: &[u8],
     line: &mut [u8],
 ) -> usize
-    ensures { λ r. ⌜ reportOf (now (label .entry)) k levels halvings (record { edition = edition; arm = arm; mount = mount }) n blocks bits unfinished place (now (ended .entry)) (on (now (line .entry)) 0) ≡ on (now (line .exit)) r ⌝ }
+    ensures { λ r. ⌜ reportOf (now (label .entry)) k levels halvings softer (record { edition = edition; arm = arm; mount = mount }) n blocks bits unfinished place (now (ended .entry)) (on (now (line .entry)) 0) ≡ on (now (line .exit)) r ⌝ }
 {
-    let title = put_title(label, k, halvings, unfinished, line);
-    let shot = put_origin(halvings, edition, arm, mount, line, title);
+    let title = put_title(label, k, halvings, softer, unfinished, line);
+    let long = is_long(halvings, softer, unfinished);
+    let shot = put_origin(long, edition, arm, mount, line, title);
     let counted = put_blocks(edition, blocks, bits, unfinished, line, shot);
     let told = put_worth(levels, halvings, unfinished, blocks, line, counted);
     let depth = put_planes(k, levels, n, unfinished, place, bits, line, told);

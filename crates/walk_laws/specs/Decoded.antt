@@ -47,7 +47,7 @@ unread-before : (p z i : ℕ) → i < z → unreadAt p z i ≡ p - 1
 unfolding unreadAt
 unread-before p z i h = ap (λ b. pick b (p - 1) p) (lt-ltb i z h)
 
-unread-most : (p z i : ℕ) → unreadAt p z i ≤ p
+pub unread-most : (p z i : ℕ) → unreadAt p z i ≤ p
 unfolding unreadAt
 unread-most p z i = go (ltb i z)
   where
@@ -59,16 +59,17 @@ unread-most p z i = go (ltb i z)
 turned-gap : (x y : ℤ) → natAbs (negℤ x -ℤ negℤ y) ≡ natAbs (x -ℤ y)
 turned-gap x y = rw (split x, split y) (simp ints (omega zarith))
 
-upward-gap : (x y : ℤ) (a b : ℕ) → x ≡ a ⊖ 0 → y ≡ b ⊖ 0 → b ≤ a → natAbs (x -ℤ y) ≡ a - b
-upward-gap x y a b e f h = rw (e, f) (simp ints (omega arith))
+upward-gap : (x y : ℤ) (a b : ℕ) → x ≡ a ⊖ 0 → y ≡ b ⊖ 0 → natAbs (x -ℤ y) ≡ (a - b) + (b - a)
+upward-gap x y a b e f = rw (e, f) (simp ints (omega arith))
 
-gap : (s : Bool) (a b : ℕ) → b ≤ a → natAbs (signed s a -ℤ signed s b) ≡ a - b
-gap false a b h = upward-gap (pos a) (pos b) a b (pos-⊖ a) (pos-⊖ b) h
-gap true a b h = turned-gap (pos a) (pos b) ∙ upward-gap (pos a) (pos b) a b (pos-⊖ a) (pos-⊖ b) h
+pub gap : (s : Bool) (a b : ℕ) → natAbs (signed s a -ℤ signed s b) ≡ (a - b) + (b - a)
+gap false a b = upward-gap (pos a) (pos b) a b (pos-⊖ a) (pos-⊖ b)
+gap true a b = turned-gap (pos a) (pos b) ∙ upward-gap (pos a) (pos b) a b (pos-⊖ a) (pos-⊖ b)
 
 cleared-gap : (q : ℕ) (x : ℤ) → natAbs (x -ℤ cleared q x) ≡ natAbs x - high q (natAbs x)
 unfolding cleared
-cleared-gap q x = ap (λ z. natAbs (z -ℤ signed (negative x) (high q (natAbs x)))) (sym (signed-self x)) ∙ gap (negative x) (natAbs x) (high q (natAbs x)) (high-le q (natAbs x))
+cleared-gap q x =
+    ap (λ z. natAbs (z -ℤ signed (negative x) (high q (natAbs x)))) (sym (signed-self x)) ∙ gap (negative x) (natAbs x) (high q (natAbs x)) ∙ omega (arith, high-le q (natAbs x))
 
 no-gap : (x : ℤ) → natAbs (x -ℤ x) ≡ 0
 no-gap x = rw (split x) (simp ints (omega arith))

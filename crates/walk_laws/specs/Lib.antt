@@ -12,5 +12,6 @@ pub mod Down
 pub mod Place
 pub mod Undecided
 pub mod Unfinished
+pub mod Softer
 pub mod Finished
 pub mod Room

@@ -214,10 +214,15 @@ module _ (k L n : ℕ) where
         leb-false (unfinished (take (c - 1) m)) q (cut-finished q m a (c - 1) ∙ lt-leb c (c - 1) (omega arith)),
       )
 
+  -- there are at most n
+  pub unfinished-most : (l : List Bool) → unfinished l ≤ n
+  unfolding decodeOf
+  unfinished-most l = count-most (depth k L) L n start (tape l false 0)
+
   -- So p is n less the planes whose every bit has been read, whatever bits make l whole.
   pub unfinished-true : (l r : List Bool) → AllRead k L n 0 (l ++ r) → unfinished l ≡ n - planesRead k L n (l ++ r) (length l)
   unfolding decodeOf
   unfinished-true l r a =
       let whole : (q : ℕ) → AllRead k L n q (l ++ r) = λ q. finished-read q (l ++ r) (omega (arith, read-finished 0 (l ++ r) a)) in
       let e : countBelow n (leb (unfinished l)) ≡ planesRead k L n (l ++ r) (length l) = λ i. countBelow n (λ q. first-part q l r (whole q) i) in
-      omega (arith, e, count-from (unfinished l) n, count-most (depth k L) L n start (tape l false 0))
+      omega (arith, e, count-from (unfinished l) n, unfinished-most l)

@@ -1,5 +1,6 @@
 -- What was decoded, a picture or a thumbnail, whose side was halved r times, and what its greys are worth. r is 0 for the picture
--- itself.
+-- itself; softer says that a softer one was asked for.
+use mathlib.Core.Bool.{Bool, not, _&&_}
 use mathlib.Core.List.{List, []}
 use Prim.Native.Nat.{ℕ, _-_, _^_}
 use lib.Dec.{leb, eqb}
@@ -19,6 +20,14 @@ sideOf k = pick (leb k mostSize) (2 ^ k) 0
 -- what is said of a thumbnail alone
 unfoldable pub ofThumbnail : ℕ → List ℕ → List ℕ
 ofThumbnail r text = pick (eqb r 0) [] text
+
+-- whether it is a softer picture: where no plane is unfinished nothing was moved, and it is the plain one
+unfoldable pub isSofter : Bool → ℕ → Bool
+isSofter softer p = not (eqb p 0) && softer
+
+-- the word that is said of a softer picture alone
+unfoldable pub ofSofter : Bool → ℕ → List ℕ
+ofSofter softer p = pick (isSofter softer p) (ascii ", softer") []
 
 -- the promises are about one coding: blocks of two shots are not seen in edition 1, nor in edition 2 if arm and mount agree
 unfoldable pub oneShot : ℕ → List ℕ

@@ -1,11 +1,11 @@
 // What was decoded, a picture or a thumbnail, and what its greys are worth, as lines in lent room. Halvings, how often a
-// thumbnail's side was halved, are 0 for the picture itself.
+// thumbnail's side was halved, are 0 for the picture itself; softer says that a softer one was asked for.
 ghost use mathlib.Core.Path.{_≡_};
 ghost use Prim.Native.Nat.{_-_};
 ghost use lib.Dec.{eqb};
 ghost use Rattle.paper.specs.Sizes.{greyLimit};
 ghost use Rattle.words.specs.Line.{on, _puts_, figure};
-ghost use Rattle.worth.specs.Worth.{word, sideOf, ofThumbnail, oneShot, kind, worth};
+ghost use Rattle.worth.specs.Worth.{word, sideOf, ofThumbnail, isSofter, ofSofter, oneShot, kind, worth};
 use sizes::less;
 use words::put;
 use words::put_either;
@@ -43,6 +43,23 @@ pub fn put_of_side(text: &[u8], k: u32, halvings: u32, line: &mut [u8], at: usiz
         return at;
     }
     put_figure(text, side(k), line, at)
+}
+
+// Whether it is a softer picture: where no plane is unfinished nothing was moved, and it is the plain one.
+pub fn is_softer(softer: bool, unfinished: u32) -> bool
+    ensures { λ r. ⌜ r ≡ isSofter softer unfinished ⌝ }
+{
+    if is_whole(unfinished) {
+        return false;
+    }
+    softer
+}
+
+// The word that is said of a softer picture alone.
+pub fn put_softer(softer: bool, unfinished: u32, line: &mut [u8], at: usize) -> usize
+    ensures { λ r. ⌜ on (now (line .entry)) at puts ofSofter softer unfinished ≡ on (now (line .exit)) r ⌝ }
+{
+    put_either(is_softer(softer, unfinished), b", softer", b"", line, at)
 }
 
 // The condition of every promise: the theorems are about one coding.

@@ -1,6 +1,6 @@
 //! The paper's table "Checked by hand", every row and sentence of it; then the
 //! case of label 0417AAL6, which characters a label may have, blocks of edition
-//! 2, and thumbnails.
+//! 2, thumbnails, and softer cut pictures.
 
 use crate::naive;
 use crate::steps::{self, sizes};
@@ -369,4 +369,70 @@ fn greys_of_a_thumbnail_are_set_into_0_to_255() {
     assert_eq!((picture[1], room[1]), (255, 328));
     let (picture, room) = thumbnail_of(2, -200, 2);
     assert_eq!((picture[2], room[2]), (0, -72));
+}
+
+/// Every cut of the coding of one number, at side 8 and two levels, is displayed
+/// as the numbers that are 0 but for this one at its place.
+fn check_displays(place: usize, number: i32, expected: &[i32]) {
+    let sizes = sizes(3, 2);
+    let bits = samples::coding(sizes, &steps::one_number(sizes, place, number));
+    assert_eq!(expected.len() as u64, bits.count + 1);
+    for (count, expected) in (0..).zip(expected) {
+        let (numbers, decoded) = steps::decode(sizes, &bits, count);
+        let stopped = decoded.place.0 as u64;
+        let displayed = steps::display(sizes, decoded.unfinished, stopped, &numbers);
+        let shown = steps::one_number(sizes, place, *expected);
+        assert_eq!(displayed, steps::inverse(sizes, &shown), "{} bits", count);
+    }
+}
+
+/// P3. With 3 bits place 0 is 4 and has two more unread, so that it is 4 to 7,
+/// and is shown as 6. Bit 8 leaves one unread: 4 or 5, shown as 5. Bit 13 is the
+/// last of it.
+#[test]
+fn displays_of_p3() {
+    let expected = [0, 0, 0, 6, 6, 6, 6, 6, 5, 5, 5, 5, 5, 5, 5, 5, 5, 5];
+    check_displays(0, 5, &expected);
+}
+
+/// P8. The tenth bit is the sign of place 15, which is -2 then and has one bit
+/// unread: -2 or -3, shown as -3. Bit 18 is the last of it.
+#[test]
+fn displays_of_p8() {
+    let expected = [
+        0, 0, 0, 0, 0, 0, 0, 0, 0, 0, -3, -3, -3, -3, -3, -3, -3, -3, -3, -3,
+    ];
+    check_displays(15, -3, &expected);
+}
+
+/// P5's numbers, shown with a 6. The inner level makes 6 3 0 0 of its column,
+/// and 6 3 0 0 and 3 1 0 0 of its rows. The outer one makes 6 4 3 1 and 3 2 1 0
+/// of the two columns, and of the rows what stands here.
+#[test]
+fn greys_of_p5_displayed() {
+    let p5 = steps::one_number(sizes(3, 2), 0, 4);
+    let (picture, room) = steps::display(sizes(3, 2), 3, 1, &p5).unwrap();
+    assert_eq!(picture[..5], [134, 132, 131, 129, 128]);
+    assert_eq!(picture[8..13], [132, 131, 130, 129, 128]);
+    assert_eq!(picture[16..20], [131, 130, 129, 128]);
+    assert_eq!(picture[24..26], [129, 128]);
+    let others = picture.iter().filter(|grey| **grey != 128).count();
+    assert_eq!(others, 12);
+    assert_eq!(room[..8], [134, 132, 132, 131, 131, 129, 130, 129]);
+    assert_eq!(room[8..12], [131, 130, 129, 128]);
+}
+
+/// Before the place one bit fewer is unread than at it and behind it; a zero
+/// stays, and magnitudes grow on either side of it.
+#[test]
+fn a_display_by_place() {
+    let sizes = sizes(3, 2);
+    let mut numbers = vec![0; 64];
+    numbers[..6].copy_from_slice(&[16, -16, 0, 16, -16, 0]);
+    numbers[63] = 16;
+    let mut shown = numbers.clone();
+    shown[..6].copy_from_slice(&[20, -20, 0, 24, -24, 0]);
+    shown[63] = 24;
+    let displayed = steps::display(sizes, 4, 3, &numbers);
+    assert_eq!(displayed, steps::inverse(sizes, &shown));
 }

@@ -1,16 +1,19 @@
 //! That the cases the gate draws come to the corners of request 8: each refusal
 //! of the writer before each later one, the limits of what edition 2 names, room
-//! where the editions want unlike room, and records of both. With `--nocapture`
-//! it is printed how often.
+//! where the editions want unlike room, and records of both; and to those of
+//! request 5: each refusal of a display before the next one, every p, and places
+//! at the limit and beyond it. With `--nocapture` it is printed how often.
 
 use crate::naive;
 use second::block::{self, CHECK_A, CHECK_B, COUNT, LENGTH, NUMBER};
 use second::cases::{self, Options};
 use second::edition::{Edition, Origin};
 use second::jobs;
+use second::places::ZPlace;
 use second::record;
-use second::sizes::LARGEST_K;
+use second::sizes::{self, LARGEST_K};
 use second::transcript::{self, Answer, Field, Request};
+use second::transform;
 use std::collections::BTreeMap;
 
 /// How often each corner was come to.
@@ -39,6 +42,73 @@ fn pairs_of(faults: &[&str]) -> Vec<String> {
     pairs
         .map(|(first, later)| format!("writing: {} before {}", faults[first], faults[later]))
         .collect()
+}
+
+/// The faults of a display, in the order they are judged in.
+const DISPLAY_FAULTS: [&str; 6] = ["1", "2", "3", "4", "5", "11"];
+
+/// Each fault that is there with the next one.
+fn neighbours_of(faults: [bool; 6]) -> Vec<String> {
+    let pairs = (1..6).filter(|later| faults[later - 1] && faults[*later]);
+    pairs
+        .map(|later| {
+            let [first, later] = [later - 1, later].map(|fault| DISPLAY_FAULTS[fault]);
+            format!("display: {} before {}", first, later)
+        })
+        .collect()
+}
+
+/// What one that is given shows: which numbers move, if any do, and how far.
+fn given_corners(unfinished: u32, place: usize, numbers: &[i32]) -> Vec<String> {
+    let moves = |places: &[i32]| unfinished > 0 && places.iter().any(|number| *number != 0);
+    let (before, behind) = numbers.split_at(place);
+    let shown = transform::softened(numbers, unfinished, ZPlace(place));
+    let mut corners = vec![format!("p {}", unfinished)];
+    for (holds, corner) in [
+        (moves(&behind[..1]), "the number at the place"),
+        (unfinished > 1 && moves(before), "a number before the place"),
+        (unfinished == 1 && moves(before), "a number that stays"),
+        (sizes::check_magnitudes(&shown).is_err(), "beyond the limit"),
+        (place == numbers.len() - 1, "the last place"),
+    ] {
+        corners.extend(holds.then(|| corner.to_string()));
+    }
+    corners
+}
+
+fn display_corners(request: &Request, refusal: usize) -> Vec<String> {
+    let (unfinished, place, numbers) = match request {
+        Request::Display {
+            unfinished,
+            place,
+            numbers,
+            ..
+        } => (*unfinished, *place, numbers),
+        _ => return Vec::new(),
+    };
+    let mut corners = neighbours_of(naive::display_conditions(request).map(|(_, holds)| holds));
+    let own = match refusal {
+        0 => given_corners(unfinished, place as usize, numbers),
+        5 => vec![format!("p {}", unfinished)],
+        11 => {
+            let places = numbers.len() as u64;
+            let over = match place - places {
+                0 => "S²".to_string(),
+                1 => "S² and 1".to_string(),
+                _ => place.to_string(),
+            };
+            let p = if unfinished == 0 { ", p 0" } else { "" };
+            vec![format!("place {}", over), format!("any place{}", p)]
+        }
+        _ => Vec::new(),
+    };
+    let told = match refusal {
+        0 => "given".to_string(),
+        refusal => refusal.to_string(),
+    };
+    let own = own.into_iter();
+    corners.extend(own.map(|corner| format!("display: {}, {}", corner, told)));
+    corners
 }
 
 /// What an origin comes to where all else is right: one of its values decides.
@@ -194,7 +264,7 @@ const CASES: u64 = 5_000;
 
 fn corners_of_the_gate() -> Corners {
     let options = Options {
-        jobs: (1..=8).collect(),
+        jobs: (1..=9).collect(),
         largest: LARGEST_K,
     };
     let mut corners = Corners::default();
@@ -207,6 +277,7 @@ fn corners_of_the_gate() -> Corners {
             Request::RecordReading { blocks, room, .. } => {
                 ("reading", reading_corners(blocks, *room, &answer))
             }
+            Request::Display { .. } => ("display", display_corners(&request, refusal)),
             Request::BlockCheck { block } => {
                 let flaw = flaw(block).map(|flaw| format!("check: {}", flaw));
                 ("check", flaw.into_iter().collect())
@@ -264,6 +335,23 @@ const READING: [&str; 12] = [
     "ended 10",
 ];
 
+/// Besides every p from 0 to 18, which are given.
+const DISPLAY: [&str; 13] = [
+    "the number at the place, given",
+    "a number before the place, given",
+    "a number that stays, given",
+    "beyond the limit, given",
+    "the last place, given",
+    "p 19, 5",
+    "p 32, 5",
+    "p 4294967295, 5",
+    "place S², 11",
+    "place S² and 1, 11",
+    "place 18446744073709551615, 11",
+    "any place, 11",
+    "any place, p 0, 11",
+];
+
 /// Of blocks whose checks are right, in a record and alone.
 const FLAWS: [&str; 6] = [
     "arm 0, 9",
@@ -275,7 +363,7 @@ const FLAWS: [&str; 6] = [
 ];
 
 #[test]
-fn the_gate_comes_to_the_corners_of_both_editions() {
+fn the_gate_comes_to_the_corners_of_both_editions_and_of_displays() {
     let gate = include_str!("../../../.ci/run");
     let draw = format!("    tools/compare --count {}\n", CASES);
     assert!(gate.contains(&draw), "the gate draws other cases");
@@ -288,11 +376,14 @@ fn the_gate_comes_to_the_corners_of_both_editions() {
         println!("{:6} {}", times, corner);
     }
     let mut expected = pairs_of(&FAULTS);
+    expected.extend(neighbours_of([true; 6]));
+    expected.extend((0..=18).map(|p| format!("display: p {}, given", p)));
     for (job, names) in [
         ("writing", &WRITING[..]),
         ("reading", &READING),
         ("reading", &FLAWS),
         ("check", &FLAWS),
+        ("display", &DISPLAY),
     ] {
         expected.extend(names.iter().map(|name| format!("{}: {}", job, name)));
     }

@@ -71,6 +71,11 @@ fn thumbnail_agrees() {
 }
 
 #[test]
+fn display_agrees() {
+    compare_both(9);
+}
+
+#[test]
 fn labels_agree_at_every_byte_in_each_place() {
     for place in 0..8 {
         for byte in 0..=255 {

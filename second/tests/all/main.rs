@@ -12,5 +12,6 @@ mod program;
 mod records;
 mod requests;
 mod slips;
+mod softer;
 mod steps;
 mod thumbnails;

@@ -129,6 +129,23 @@ fn inverse(k: u32, levels: u32, left: u32, numbers: &[i32]) -> Square {
     square
 }
 
+/// The numbers for display. With none of its unread bits set a number is as it
+/// stands; it is shown with the highest of them set, moved up in magnitude by half
+/// of what they leave unknown. Before the place that of the running plane has been
+/// read.
+fn displayed(unfinished: u32, place: usize, numbers: &[i32]) -> Vec<i32> {
+    let mut shown = numbers.to_vec();
+    for (z, number) in shown.iter_mut().enumerate() {
+        let mut unread: Vec<u32> = (0..unfinished).collect();
+        if z < place {
+            unread.pop();
+        }
+        let bit = unread.last().map_or(0, |plane| 2_i32.pow(*plane));
+        *number += bit * number.signum();
+    }
+    shown
+}
+
 /// The picture, and the room in Z order. A float turned into a byte is set into
 /// 0 to 255.
 fn shown(square: &Square) -> (Vec<u8>, Vec<i32>) {
@@ -572,6 +589,34 @@ pub fn writing_conditions(request: &Request) -> [(u32, bool); 7] {
     }
 }
 
+/// The conditions of a request for display, in the order they are judged in. Of a
+/// k that isn't served no place is right or wrong.
+pub fn display_conditions(request: &Request) -> [(u32, bool); 6] {
+    match request {
+        Request::Display {
+            k,
+            levels,
+            unfinished,
+            place,
+            numbers,
+            picture,
+            room,
+        } => {
+            let [wrong_side, wrong_levels] = wrong_sizes(*k, *levels);
+            let nowhere = most_levels(*k).map_or(false, |_| *place >= 4_u64.pow(*k));
+            [
+                wrong_side,
+                wrong_levels,
+                wrong_lengths(*k, &[numbers.len(), *picture, *room]),
+                wrong_numbers(numbers),
+                (5, *unfinished > 18),
+                (11, nowhere),
+            ]
+        }
+        _ => panic!("no request for display"),
+    }
+}
+
 /// Writes a list over the front of lent bytes.
 fn over_front(mut lent: Vec<u8>, front: &[u8]) -> Vec<u8> {
     lent.splice(..front.len(), front.iter().copied());
@@ -789,6 +834,27 @@ pub fn answer(request: &Request) -> Answer {
             let (mut picture, mut room) = (lent_bytes(*picture), lent_numbers(*room));
             if refusal == 0 {
                 (picture, room) = shown(&inverse(*k, *levels, *halvings, numbers));
+            }
+            vec![
+                ("refusal", Field::Small(refusal)),
+                ("picture", Field::Bytes(picture)),
+                ("room", Field::Numbers(room)),
+            ]
+        }
+        Request::Display {
+            k,
+            levels,
+            unfinished,
+            place,
+            numbers,
+            picture,
+            room,
+        } => {
+            let refusal = first(&display_conditions(request));
+            let (mut picture, mut room) = (lent_bytes(*picture), lent_numbers(*room));
+            if refusal == 0 {
+                let numbers = displayed(*unfinished, *place as usize, numbers);
+                (picture, room) = shown(&inverse(*k, *levels, 0, &numbers));
             }
             vec![
                 ("refusal", Field::Small(refusal)),

@@ -128,7 +128,7 @@ fn bad_words_and_bad_input_end_with_status_2() {
         &["encode"],
         &["cases", "--seed", "1"],
         &["cases", "--seed", "x", "--count", "1"],
-        &["cases", "--seed", "1", "--count", "1", "--jobs", "9"],
+        &["cases", "--seed", "1", "--count", "1", "--jobs", "10"],
         &["cases", "--seed", "1", "--count", "1", "--largest", "9"],
         &["compare", "one", "--requests", "none"],
         &["answer", "--fast"],
@@ -138,7 +138,7 @@ fn bad_words_and_bad_input_end_with_status_2() {
     for words in bad {
         assert_eq!(second(words, &[]).status.code(), Some(2), "{:?}", words);
     }
-    let malformed: [&[u8]; 4] = [&[0], &[9], &[7, 1, 0, 0], &[7, 0xFF, 0xFF, 0xFF, 0xFF]];
+    let malformed: [&[u8]; 4] = [&[0], &[10], &[7, 1, 0, 0], &[7, 0xFF, 0xFF, 0xFF, 0xFF]];
     for input in malformed {
         assert_eq!(second(&["answer"], input).status.code(), Some(2));
     }

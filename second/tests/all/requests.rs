@@ -5,12 +5,14 @@ use crate::naive;
 use second::cases::{self, Options};
 use second::compare::{self, Outcome};
 use second::edition::Origin;
+use second::places::ZPlace;
 use second::random::Random;
 use second::samples;
 use second::show;
 use second::sizes;
 use second::transcript::{self, lent_bytes, lent_numbers, Answer, Field, Request};
 use second::transcript::{MOST_BYTES, MOST_LABEL, MOST_NUMBERS};
+use second::transform;
 use std::collections::{BTreeMap, BTreeSet};
 use std::slice::from_ref;
 
@@ -24,7 +26,7 @@ fn cases_of(jobs: &[u8], largest: u32, count: u64) -> Vec<Request> {
         .collect()
 }
 
-const ALL_JOBS: [u8; 8] = [1, 2, 3, 4, 5, 6, 7, 8];
+const ALL_JOBS: [u8; 9] = [1, 2, 3, 4, 5, 6, 7, 8, 9];
 
 fn small(answer: &Answer, wanted: &str) -> u32 {
     match answer.iter().find(|(name, _)| *name == wanted) {
@@ -35,7 +37,7 @@ fn small(answer: &Answer, wanted: &str) -> u32 {
 
 #[test]
 fn every_refusal_of_every_job_appears_regularly() {
-    let refusals: [&[u32]; 8] = [
+    let refusals: [&[u32]; 9] = [
         &[0, 1, 2, 3],
         &[0, 1, 2, 3, 4],
         &[0, 1, 2, 3, 5, 6],
@@ -44,6 +46,7 @@ fn every_refusal_of_every_job_appears_regularly() {
         &[0, 6, 7, 8, 9, 10],
         &[0, 6, 8, 9],
         &[0, 1, 2, 3, 4, 13],
+        &[0, 1, 2, 3, 4, 5, 11],
     ];
     for (job, expected) in ALL_JOBS.iter().zip(refusals) {
         let mut seen: BTreeMap<u32, u32> = BTreeMap::new();
@@ -79,6 +82,34 @@ fn numbers_that_4_does_not_judge_appear_regularly() {
         }
     }
     assert!(unjudged >= 20, "{}", unjudged);
+}
+
+/// Displays are asked for, and given, with every p and with moved numbers that
+/// pass the limit, and where the decoder stopped within a plane.
+#[test]
+fn displays_of_every_kind_appear_regularly() {
+    let mut planes: BTreeMap<u32, u32> = BTreeMap::new();
+    let (mut beyond, mut within) = (0, 0);
+    for request in cases_of(&[9], 4, 2_000) {
+        if let Request::Display {
+            unfinished,
+            place,
+            numbers,
+            ..
+        } = &request
+        {
+            if small(&transcript::answer(&request), "refusal") == 0 {
+                *planes.entry(*unfinished).or_default() += 1;
+                let stopped = ZPlace(*place as usize);
+                let shown = transform::softened(numbers, *unfinished, stopped);
+                beyond += u32::from(sizes::check_magnitudes(&shown).is_err());
+                within += u32::from(*unfinished > 0 && *place > 0);
+            }
+        }
+    }
+    assert!(planes.keys().copied().eq(0..=18), "{:?}", planes);
+    assert!(planes.values().all(|times| *times >= 20), "{:?}", planes);
+    assert!(beyond >= 20 && within >= 200, "{} {}", beyond, within);
 }
 
 #[test]
@@ -232,6 +263,19 @@ fn requests_are_written_as_laid_down() {
         0, 0, 0,
     ];
     assert_eq!(written(thumbnail), laid_down);
+    let display = Request::Display {
+        k: 3,
+        levels: 2,
+        unfinished: 5,
+        place: 0x0102_0304_0506_0708,
+        numbers: vec![-2],
+        picture: 1,
+        room: 2,
+    };
+    let mut laid_down = vec![9, 3, 0, 0, 0, 2, 0, 0, 0, 5, 0, 0, 0];
+    laid_down.extend([8, 7, 6, 5, 4, 3, 2, 1, 1, 0, 0, 0]);
+    laid_down.extend([0xFE, 0xFF, 0xFF, 0xFF, 1, 0, 0, 0, 2, 0, 0, 0]);
+    assert_eq!(written(display), laid_down);
 }
 
 #[test]
@@ -261,6 +305,12 @@ fn cases_keep_within_the_limits() {
                 ..
             }
             | Request::Thumbnail {
+                numbers,
+                picture,
+                room,
+                ..
+            }
+            | Request::Display {
                 numbers,
                 picture,
                 room,

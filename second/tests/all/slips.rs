@@ -92,6 +92,51 @@ fn slips_of_a_place_are_seen() {
     assert_eq!(place(8), 15);
 }
 
+/// What comes of the slips of a display that look reasonable: the numbers 4, -4
+/// and 0 at places 0 to 2, of which the first stands before the place.
+#[test]
+fn slips_of_a_display_are_seen() {
+    let sizes = sizes(3, 2);
+    let front = |numbers: [i32; 3]| {
+        let mut all = vec![0; sizes.places()];
+        all[..3].copy_from_slice(&numbers);
+        all
+    };
+    let stored = front([4, -4, 0]);
+    let check = |unfinished, place, shown| {
+        let displayed = steps::display(sizes, unfinished, place, &stored);
+        assert_eq!(displayed, steps::inverse(sizes, &front(shown)));
+    };
+    // The place not looked at: 6 first. Taken for settled itself: -5. Added to the
+    // number and not to its magnitude: -2. Zeros moved too: 2 last. All that is
+    // unknown added, and not half of it: 6 -8.
+    check(2, 1, [5, -6, 0]);
+    // Half of the largest that is unknown, 2^u - 1, rounded down: 4 -4.
+    check(1, 0, [5, -5, 0]);
+    // 2^(u-1) of u = 0 taken for 1: 5 first.
+    check(1, 1, [4, -5, 0]);
+    check(0, 0, [4, -4, 0]);
+    check(0, 1, [4, -4, 0]);
+}
+
+/// Softer is not always nearer. P3 with a 4 for its 5, cut to 3 bits: the plain
+/// picture is the very one, and the softer one has a 6 there.
+#[test]
+fn softer_may_be_worse() {
+    let sizes = sizes(3, 2);
+    let truth = steps::one_number(sizes, 0, 4);
+    let bits = samples::coding(sizes, &truth);
+    let (numbers, decoded) = steps::decode(sizes, &bits, 3);
+    assert_eq!((decoded.unfinished, decoded.place.0), (3, 1));
+    assert_eq!(numbers, truth);
+    let softer = steps::display(sizes, 3, 1, &numbers);
+    assert_eq!(
+        softer,
+        steps::inverse(sizes, &steps::one_number(sizes, 0, 6))
+    );
+    assert_ne!(softer, steps::inverse(sizes, &truth));
+}
+
 #[test]
 fn a_label_is_no_number() {
     let mut room = [0; 512];

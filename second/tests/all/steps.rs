@@ -74,6 +74,28 @@ pub fn thumbnail(
     Ok((picture, room))
 }
 
+/// The picture for display, and its greys in Z order before they are set into 0
+/// to 255.
+pub fn display(
+    sizes: Sizes,
+    unfinished: u32,
+    place: u64,
+    numbers: &[i32],
+) -> Result<(Vec<u8>, Vec<i32>), Refusal> {
+    let (mut picture, mut room) = (vec![1; sizes.places()], vec![-1; sizes.places()]);
+    let (k, levels) = (sizes.k(), sizes.levels());
+    jobs::display(
+        k,
+        levels,
+        unfinished,
+        place,
+        numbers,
+        &mut picture,
+        &mut room,
+    )?;
+    Ok((picture, room))
+}
+
 /// The greys that the first `count` bits give.
 pub fn decode_picture(sizes: Sizes, bits: &Bits, count: u64) -> Vec<u8> {
     let (numbers, _) = decode(sizes, bits, count);

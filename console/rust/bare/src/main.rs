@@ -52,6 +52,15 @@ fn journey() -> Result<u8, Refusal> {
         {
             return Ok(4);
         }
+        let (p, place) = (settled.unfinished, settled.place);
+        label::display(kept.k, kept.levels, p, place, &numbers, &mut shown, &mut room)?;
+        if picture
+            .iter()
+            .zip(&shown)
+            .any(|(grey, shown)| grey.abs_diff(*shown) > limit)
+        {
+            return Ok(7);
+        }
     }
     if label::read(&record, b"00000418", &mut [0; BLOCKS * PAYLOAD_BYTES]) != Err(Refusal::Turn) {
         return Ok(5);

@@ -3,8 +3,8 @@
 //! A picture has S x S greys of one byte, S = 2^k, k from 3 to 8, row by row. [`forward`] makes wavelet numbers of
 //! them, [`code`] makes bits of the numbers, the most significant plane first, and [`write()`] makes 512-byte blocks of
 //! the bits: the record. A record may be cut anywhere. [`read`] takes its longest run of good blocks, [`decode`] what
-//! their bits settle, and [`inverse`] makes greys of that, or [`thumbnail`] those of a smaller picture. [`check`] judges
-//! one block by itself.
+//! their bits settle, and [`inverse`] makes greys of that, or [`thumbnail`] those of a smaller picture, or [`display`]
+//! those of a softer one, for the eye. [`check`] judges one block by itself.
 //!
 //! The S x S numbers stand in Z order: the place of row r, column c has the bits of r and c by turns, the lowest bit of
 //! c lowest. The levels, L, go from 1 to the smaller of 5 and k - 1; the bit planes, n, from 0 to 18. A label is eight
@@ -54,9 +54,14 @@
 //! none that isn't zero has the wrong sign, and no grey is off by more than [`grey_limit`]. With p = 0 it is the very
 //! picture. The numbers before [`Settled::place`], where the cut fell, have a plane more and are short by at most
 //! 2^(p - 1) - 1. A thumbnail of r halvings is, with p = 0, the low band that r levels leave of the picture, plus 128
-//! and set into 0 to 255; else no grey is further from that than `grey_limit(levels - halvings, unfinished)`. All that is
-//! about bits of one coding: blocks of two shots under one label with the same k, L and n fit together unnoticed in edition 1,
-//! and in edition 2 only if arm and mount number are the same too; what they show was never shot.
+//! and set into 0 to 255; else no grey is further from that than `grey_limit(levels - halvings, unfinished)`.
+//!
+//! A softer picture shows each number that isn't zero moved up in magnitude by half of what is still unknown of it. With u
+//! of its bits unread, u at least 1, it is within 2^(u - 1) of the true one; with u = 0 it is the true one. No grey is off
+//! by more than [`grey_limit`], as in the plain picture; it is not promised to be nearer to the truth than that.
+//!
+//! All this is about bits of one coding: blocks of two shots under one label with the same k, L and n fit together
+//! unnoticed in edition 1, and in edition 2 only if arm and mount number are the same too; what they show was never shot.
 //!
 //! # Linking
 //! The archive is x86-64 code for ELF, as on Linux, and calls `memcpy` and `memset`, nothing else. `build.rs` looks for
@@ -233,6 +238,47 @@ pub fn thumbnail(
     room: &mut [i32],
 ) -> Result<(), Refusal> {
     refusal::judged(raw::thumbnail(k, levels, halvings, numbers, picture, room), ())
+}
+
+/// Wavelet numbers to the greys of a softer picture, for the eye: fills the picture.
+///
+/// `numbers` are as [`decode`] left them, `unfinished` and `place` as it gave them; any others that are not refused are
+/// taken too. Then nothing is promised, and no refusal tells: p or place of another decoding, p forgotten as 0, p and place
+/// exchanged. Each number that isn't 0 is shown moved up in magnitude by 2^(u - 1) where u, how many of its bits are
+/// unread, is at least 1: u is `unfinished` less 1 before the place and `unfinished` from it on; with `unfinished` 0
+/// nothing is moved. The numbers lent are not changed, and they alone are judged: of numbers that no decoding left so, what
+/// is moved may pass [`NUMBER_LIMIT`] and reach 393,215. `room` ends with the greys before they are set into 0 to 255, in
+/// Z order.
+///
+/// No grey is off by more than [`grey_limit`]`(levels, unfinished)`, as in the picture of [`inverse`]. It is not promised
+/// to be nearer to the truth than that one. It is for the eye: to measure or to keep, take the plain picture, of whose
+/// numbers more is proved.
+///
+/// # Errors
+/// [`Side`](Refusal::Side), [`Levels`](Refusal::Levels), [`Length`](Refusal::Length), [`Number`](Refusal::Number),
+/// [`Planes`](Refusal::Planes) (`unfinished` above [`MOST_PLANES`]), [`State`](Refusal::State) (a place that is not below
+/// [`places`], whatever `unfinished` is).
+///
+/// ```
+/// let (mut numbers, mut picture, mut room) = ([0; 64], [0; 64], [0; 64]);
+/// let settled = label::decode(3, 2, 3, &mut numbers, &[0xC0, 0x08, 0x00], 8).unwrap();
+/// assert_eq!((settled.unfinished, settled.place, numbers[0]), (2, 1, 4)); // of 5: its last bit is unread
+/// label::display(3, 2, settled.unfinished, settled.place, &numbers, &mut picture, &mut room).unwrap();
+/// assert_eq!((numbers[0], room[0]), (4, 128 + 5)); // shown as 5
+/// label::inverse(3, 2, &numbers, &mut picture, &mut room).unwrap();
+/// assert_eq!(room[0], 128 + 4);
+/// assert_eq!(label::display(3, 2, 2, 64, &numbers, &mut picture, &mut room), Err(label::Refusal::State));
+/// ```
+pub fn display(
+    k: u32,
+    levels: u32,
+    unfinished: u32,
+    place: usize,
+    numbers: &[i32],
+    picture: &mut [u8],
+    room: &mut [i32],
+) -> Result<(), Refusal> {
+    refusal::judged(raw::display(k, levels, unfinished, place, numbers, picture, room), ())
 }
 
 /// Bits to blocks: writes the record of the first `b` bits at the front of `room`, in this edition, and gives its count

@@ -1,4 +1,4 @@
-//! The eight calls with the plain answers of `label.h`: a refusal's number beside the rest, which is 0 where that
+//! The nine calls with the plain answers of `label.h`: a refusal's number beside the rest, which is 0 where that
 //! number is not.
 //!
 //! The calls of the package itself say the same as a [`Result`]; these are for a caller that compares answers field by
@@ -219,6 +219,18 @@ mod archive {
             room: *mut i32,
             room_count: usize,
         ) -> u32;
+        pub(super) fn label_display(
+            k: u32,
+            levels: u32,
+            unfinished: u32,
+            place: usize,
+            numbers: *const i32,
+            numbers_count: usize,
+            picture: *mut u8,
+            picture_count: usize,
+            room: *mut i32,
+            room_count: usize,
+        ) -> u32;
         pub(super) fn label_write(
             k: u32,
             levels: u32,
@@ -326,6 +338,35 @@ pub fn thumbnail(k: u32, levels: u32, halvings: u32, numbers: &[i32], picture: &
             k,
             levels,
             halvings,
+            numbers.as_ptr(),
+            numbers.len(),
+            picture.as_mut_ptr(),
+            picture.len(),
+            room.as_mut_ptr(),
+            room.len(),
+        )
+    }
+}
+
+/// Numbers to a softer picture's greys: see [`display`](crate::display). Gives the refusal's number, judged in the order 1,
+/// 2, 3, 4, 5, 11; 0 if none.
+#[must_use]
+pub fn display(
+    k: u32,
+    levels: u32,
+    unfinished: u32,
+    place: usize,
+    numbers: &[i32],
+    picture: &mut [u8],
+    room: &mut [i32],
+) -> u32 {
+    // SAFETY: as above
+    unsafe {
+        archive::label_display(
+            k,
+            levels,
+            unfinished,
+            place,
             numbers.as_ptr(),
             numbers.len(),
             picture.as_mut_ptr(),

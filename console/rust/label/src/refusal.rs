@@ -28,9 +28,10 @@ pub enum Refusal {
     /// 3: a slice of greys or numbers is not [`places`](crate::places) long; or a thumbnail, or its room, is not
     /// [`thumbnail_places`](crate::thumbnail_places) long.
     Length = 3,
-    /// 4: a number is beyond ±[`NUMBER_LIMIT`](crate::NUMBER_LIMIT); for a thumbnail, one of those that it is made of.
+    /// 4: a number is beyond ±[`NUMBER_LIMIT`](crate::NUMBER_LIMIT); for a thumbnail, one of those that it is made of; for a
+    /// softer picture, one as it was lent, and not as it is shown.
     Number = 4,
-    /// 5: n is above [`MOST_PLANES`](crate::MOST_PLANES).
+    /// 5: n is above [`MOST_PLANES`](crate::MOST_PLANES); or the unfinished planes of a softer picture are.
     Planes = 5,
     /// 6: more bits than the bytes lent have, or than n planes can have; under 512 bytes to read, or to write for each
     /// block; under 492 bytes of room for each whole block to read; a block to check that is not 512 bytes.
@@ -45,13 +46,15 @@ pub enum Refusal {
     /// 10: a block's number is out of turn, its bytes 0 to 11, in edition 2 also 16 to 19, are unlike block 0's, or its
     /// label unlike the one expected.
     Turn = 10,
+    /// 11: the place of a softer picture is not below [`places`](crate::places); no decoding gives one.
+    State = 11,
     /// 13: the halvings of a thumbnail are not in 1 to L.
     Halvings = 13,
 }
 
 impl Refusal {
     /// All refusals, by their numbers.
-    pub const ALL: [Refusal; 11] = [
+    pub const ALL: [Refusal; 12] = [
         Refusal::Side,
         Refusal::Levels,
         Refusal::Length,
@@ -62,16 +65,17 @@ impl Refusal {
         Refusal::Damaged,
         Refusal::Fields,
         Refusal::Turn,
+        Refusal::State,
         Refusal::Halvings,
     ];
 
-    /// The refusal's number, 1 to 10 or 13.
+    /// The refusal's number, 1 to 11 or 13.
     #[must_use]
     pub const fn number(self) -> u32 {
         self as u32
     }
 
-    /// The refusal that has this number; none for 0, 11, 12 and above 13.
+    /// The refusal that has this number; none for 0, 12 and above 13.
     ///
     /// ```
     /// use label::Refusal;
@@ -105,6 +109,7 @@ impl fmt::Display for Refusal {
             Refusal::Damaged => "a block is damaged, a check is wrong",
             Refusal::Fields => "a field of a block is wrong, or the arm or the mount number to write",
             Refusal::Turn => "a block is out of its turn in the record asked for",
+            Refusal::State => "the place is S x S or more; no decoding gives one",
             Refusal::Halvings => "the halvings of a thumbnail are not in 1 to the levels",
         })
     }

@@ -4,7 +4,7 @@ mod pictures;
 
 use label::{Edition, Refusal, Settled, BLOCK_BYTES, PAYLOAD_BYTES};
 use pictures::{arm_block, coding, low_bands, media_block, pictures, record, set, sizes};
-use pictures::{Chance, Low, BY_ARM_2, EDITIONS, LABEL, MEDIA};
+use pictures::{Chance, Coding, Low, BY_ARM_2, EDITIONS, LABEL, MEDIA};
 
 /// What decoded numbers and greys are worth against the true ones, with p planes unfinished: of the numbers before the
 /// place where the cut fell, one plane less is unread.
@@ -46,6 +46,50 @@ fn thumbnails_as_promised(k: u32, unfinished: u32, numbers: &[i32], bands: &[Low
     unlike
 }
 
+/// The numbers as a softer picture shows them, by the rule.
+fn moved(settled: Settled, numbers: &[i32]) -> Vec<i32> {
+    let shown = |(z, number): (usize, &i32)| match settled.unfinished - u32::from(z < settled.place) {
+        0 => *number,
+        unread => number + number.signum() * (1 << (unread - 1)),
+    };
+    numbers.iter().enumerate().map(shown).collect()
+}
+
+/// The softer picture of decoded numbers is that of the numbers moved, of which each that isn't zero is as near to the
+/// true one as is promised, and so is each grey; with p = 0 it is the plain picture. Gives whether it shows other greys
+/// than that.
+fn softer_as_promised(
+    levels: u32,
+    settled: Settled,
+    numbers: &[i32],
+    coding: &Coding,
+    plain: &[u8],
+    picture: &[u8],
+) -> bool {
+    let (k, Settled { unfinished, place, .. }) = (picture.len().ilog2() / 2, settled);
+    let near = moved(settled, numbers);
+    for (z, (number, truth)) in near.iter().zip(&coding.numbers).enumerate() {
+        let half = match unfinished - u32::from(z < place) {
+            0 => 0,
+            unread => 1 << (unread - 1),
+        };
+        assert!(*number == 0 || number.abs_diff(*truth) <= half, "a number too far off");
+    }
+    let [mut shown, mut wanted] = [1, 2].map(|grey| vec![grey; picture.len()]);
+    let [mut room, mut before] = [1, 2].map(|number| vec![number; picture.len()]);
+    let lent = numbers.to_vec();
+    label::display(k, levels, unfinished, place, numbers, &mut shown, &mut room).expect("what was settled");
+    assert_eq!(numbers, lent, "the numbers lent are other ones");
+    label::inverse(k, levels, &near, &mut wanted, &mut before).expect("within the limit");
+    assert_eq!((&shown, &room), (&wanted, &before), "not the numbers that were moved");
+    let limit = label::grey_limit(levels, unfinished);
+    for (grey, truth) in shown.iter().zip(picture) {
+        assert!(grey.abs_diff(*truth) <= limit, "a grey is off by more than {limit}");
+    }
+    assert!(unfinished > 0 || shown == plain, "all is read, and something was moved");
+    shown != plain
+}
+
 #[test]
 fn there_and_back() {
     for (k, levels) in sizes() {
@@ -80,13 +124,15 @@ fn there_and_back() {
             assert_eq!(shown, picture, "the very picture, k {k}, {levels} levels");
             let bands = low_bands(k, levels, &picture);
             assert_eq!(thumbnails_as_promised(k, 0, &numbers, &bands), 0);
+            let other = softer_as_promised(levels, settled, &numbers, &coding, &shown, &picture);
+            assert!(!other, "a softer picture of all bits is another");
         }
     }
 }
 
 /// Every first part of the records of an edition, of sides below 2^k.
 fn cut_records(edition: Edition, below: u32) {
-    let (mut cut, mut unlike, mut thumbnails) = (0, 0, 0);
+    let (mut cut, mut unlike, mut thumbnails, mut softer) = (0, 0, 0, 0);
     for (k, levels) in sizes().filter(|(k, _)| *k < below) {
         for picture in pictures(k) {
             let coding = coding(k, levels, &picture);
@@ -121,12 +167,14 @@ fn cut_records(edition: Edition, below: u32) {
                 cut += usize::from(count < blocks);
                 unlike += usize::from(shown != picture);
                 thumbnails += thumbnails_as_promised(k, settled.unfinished, &numbers, &bands);
+                let other = softer_as_promised(levels, settled, &numbers, &coding, &shown, &picture);
+                softer += usize::from(other);
             }
         }
     }
     assert!(
-        cut > 50 && unlike > 50 && thumbnails > 100,
-        "{cut} cut records, of which {unlike} show it, and {thumbnails} of their thumbnails"
+        cut > 50 && unlike > 50 && thumbnails > 100 && softer > 50,
+        "{cut} cut records, of which {unlike} show it, {thumbnails} of their thumbnails, {softer} softer"
     );
 }
 
@@ -168,6 +216,7 @@ fn a_coding_cut_at_any_bit_keeps_its_promise() {
                 label::inverse(k, levels, &numbers, &mut shown, &mut work).expect("numbers");
                 as_good_as_promised(levels, settled, &numbers, &coding.numbers, &shown, &picture);
                 thumbnails_as_promised(k, settled.unfinished, &numbers, &bands);
+                softer_as_promised(levels, settled, &numbers, &coding, &shown, &picture);
             }
         }
     }
@@ -202,6 +251,64 @@ fn the_thumbnails_of_the_format_page() {
     numbers[1..3].copy_from_slice(&[-200, 200]);
     assert_eq!(label::thumbnail(3, 2, 2, &numbers, &mut two, &mut room), Ok(()));
     assert_eq!((two, room), ([133, 0, 255, 128], [133, -72, 328, 128]));
+}
+
+/// Place 0 of the numbers 5, 0, 0, .. 0 and place 15 of 0, .. -3, .. 0, cut at each of their bits.
+#[test]
+fn the_softer_numbers_of_the_format_page() {
+    let shown = |bytes: &[u8], n, b, at: usize| {
+        let mut numbers = [9; 64];
+        let settled = label::decode(3, 2, n, &mut numbers, bytes, b).expect("its bits");
+        let (p, cut) = (settled.unfinished, settled.place);
+        let (mut picture, mut room, mut wanted) = ([9; 64], [9; 64], [9; 64]);
+        label::display(3, 2, p, cut, &numbers, &mut picture, &mut room).expect("numbers");
+        let near = moved(settled, &numbers);
+        label::inverse(3, 2, &near, &mut [9; 64], &mut wanted).expect("numbers");
+        assert_eq!(room, wanted);
+        assert_eq!(set(&room), picture);
+        near[at]
+    };
+    let five: Vec<i32> = (0..=17).map(|b| shown(&[0xC0, 0x08, 0x00], 3, b, 0)).collect();
+    assert_eq!(five, [0, 0, 0, 6, 6, 6, 6, 6, 5, 5, 5, 5, 5, 5, 5, 5, 5, 5]);
+    let minus_three: Vec<i32> = (0..=19).map(|b| shown(&[0x48, 0xC0, 0x40], 2, b, 15)).collect();
+    assert_eq!((&minus_three[..10], &minus_three[10..]), (&[0; 10][..], &[-3; 10][..]));
+}
+
+#[test]
+fn the_softer_pictures_of_the_format_page() {
+    let mut numbers = [0; 64];
+    numbers[0] = 4; // of 5, as its first 7 and its first 8 bits leave it
+    for (place, row) in [(0, [134, 132, 131, 129]), (1, [133, 131, 130, 129])] {
+        let (mut picture, mut room) = ([9; 64], [9; 64]);
+        assert_eq!(
+            label::display(3, 2, 2, place, &numbers, &mut picture, &mut room),
+            Ok(())
+        );
+        assert_eq!((&picture[..4], &picture[4..8]), (&row[..], &[128; 4][..]));
+    }
+    let (mut plain, mut room) = ([9; 64], [9; 64]);
+    assert_eq!(label::inverse(3, 2, &numbers, &mut plain, &mut room), Ok(()));
+    assert_eq!(plain[..8], [132, 131, 130, 129, 128, 128, 128, 128]);
+}
+
+/// Numbers at the limit: moved they pass it, and their greys are set into 0 to 255.
+#[test]
+fn softer_beyond_the_limit() {
+    for (number, place, shown, grey) in [
+        (label::NUMBER_LIMIT, 0, 393_215, 255),
+        (label::NUMBER_LIMIT, 63, 327_679, 255),
+        (-label::NUMBER_LIMIT, 0, -393_215, 0),
+        (-label::NUMBER_LIMIT, 63, -327_679, 0),
+    ] {
+        let mut numbers = [0; 64];
+        numbers[0] = number;
+        let (mut picture, mut room) = ([9; 64], [9; 64]);
+        assert_eq!(
+            label::display(3, 2, 18, place, &numbers, &mut picture, &mut room),
+            Ok(())
+        );
+        assert_eq!((room[0], picture[0]), (shown + 128, grey));
+    }
 }
 
 #[test]

@@ -55,6 +55,17 @@ fn thumbnail(k: u32, levels: u32, halvings: u32, numbers: &[i32], lent: [usize; 
     answer
 }
 
+/// Lent so many greys, and so many places of room.
+fn display(k: u32, levels: u32, state: (u32, usize), numbers: &[i32], lent: [usize; 2]) -> Result<(), Refusal> {
+    let (mut greys, mut work) = (vec![BYTE; lent[0]], vec![ODD; lent[1]]);
+    let (unfinished, place) = state;
+    let answer = label::display(k, levels, unfinished, place, numbers, &mut greys, &mut work);
+    if answer.is_err() {
+        assert!(greys.iter().all(|byte| *byte == BYTE) && work.iter().all(|number| *number == ODD));
+    }
+    answer
+}
+
 /// In edition 1, and in edition 2 with an arm and a mount that are right: the answers are the same here.
 fn write(k: u32, levels: u32, n: u32, label: &[u8], bytes: usize, b: usize, room: usize) -> Result<usize, Refusal> {
     let [first, second] = EDITIONS.map(|edition| {
@@ -111,6 +122,7 @@ fn sides() {
         assert_eq!(decode(k, 1, 0, 64, 0, 0), Err(Refusal::Side));
         assert_eq!(inverse(k, 1, &[0; 64], 64, 64), Err(Refusal::Side));
         assert_eq!(thumbnail(k, 1, 1, &[0; 64], [16, 16]), Err(Refusal::Side));
+        assert_eq!(display(k, 1, (0, 0), &[0; 64], [64, 64]), Err(Refusal::Side));
         assert_eq!(write(k, 1, 0, LABEL, 0, 0, 512), Err(Refusal::Side));
     }
 }
@@ -132,6 +144,10 @@ fn levels() {
             );
             assert_eq!(
                 thumbnail(k, levels, 1, &vec![0; places], [places / 4; 2]),
+                Err(Refusal::Levels)
+            );
+            assert_eq!(
+                display(k, levels, (0, 0), &vec![0; places], [places; 2]),
                 Err(Refusal::Levels)
             );
             assert_eq!(write(k, levels, 0, LABEL, 0, 0, 512), Err(Refusal::Levels));
@@ -170,6 +186,9 @@ fn lengths() {
         for (r, few) in [(1, 16), (2, 4)] {
             assert_eq!(thumbnail(3, 2, r, &vec![0; length], [few; 2]), Err(Refusal::Length));
         }
+        assert_eq!(display(3, 2, (0, 0), &vec![0; length], [64; 2]), Err(Refusal::Length));
+        assert_eq!(display(3, 2, (0, 0), &[0; 64], [length, 64]), Err(Refusal::Length));
+        assert_eq!(display(3, 2, (0, 0), &[0; 64], [64, length]), Err(Refusal::Length));
     }
     // of a thumbnail, the greys and the room are fewer
     for length in (0..16).chain(17..66) {
@@ -194,6 +213,8 @@ fn numbers() {
             let refusal = if good { None } else { Some(Refusal::Number) };
             assert_eq!(code(3, 2, &numbers, 1000).err(), refusal);
             assert_eq!(inverse(3, 2, &numbers, 64, 64).err(), refusal);
+            // as it is lent: at the limit it is taken, though it is shown beyond it
+            assert_eq!(display(3, 2, (18, 0), &numbers, [64; 2]).err(), refusal);
         }
         // a thumbnail's are the first
         for place in 0..64 {
@@ -218,6 +239,26 @@ fn planes() {
     for n in [19, 20, u32::MAX] {
         assert_eq!(decode(3, 2, n, 64, 0, 0), Err(Refusal::Planes));
         assert_eq!(write(3, 2, n, LABEL, 0, 0, 512), Err(Refusal::Planes));
+        assert_eq!(display(3, 2, (n, 0), &[0; 64], [64; 2]), Err(Refusal::Planes));
+    }
+}
+
+#[test]
+fn states() {
+    for p in 0..=18 {
+        for place in 0..64 {
+            assert_eq!(display(3, 2, (p, place), &[1; 64], [64; 2]), Ok(()));
+        }
+        for place in [64, 65, 256, 1 << 32, usize::MAX] {
+            assert_eq!(display(3, 2, (p, place), &[1; 64], [64; 2]), Err(Refusal::State));
+        }
+    }
+    // for each side its own
+    for k in 3..=8 {
+        let places = label::places(k);
+        let numbers = vec![-1; places];
+        assert_eq!(display(k, 1, (18, places - 1), &numbers, [places; 2]), Ok(()));
+        assert_eq!(display(k, 1, (18, places), &numbers, [places; 2]), Err(Refusal::State));
     }
 }
 
@@ -516,6 +557,7 @@ fn slices_of_length_0() {
     assert_eq!(label::decode(3, 2, 0, &mut [], &[], 0), Err(Refusal::Length));
     assert_eq!(label::inverse(3, 2, &[], &mut [], &mut []), Err(Refusal::Length));
     assert_eq!(label::thumbnail(3, 2, 2, &[], &mut [], &mut []), Err(Refusal::Length));
+    assert_eq!(label::display(3, 2, 0, 0, &[], &mut [], &mut []), Err(Refusal::Length));
     assert_eq!(
         label::write(3, 2, 0, Edition::One, &[], &[], 0, &mut []),
         Err(Refusal::Room)
@@ -566,6 +608,27 @@ fn thirteen_after_two_and_before_three() {
     assert_eq!(thumbnail(3, 2, 2, &[i32::MIN; 64], [4, 4]), Err(Refusal::Number));
 }
 
+/// Each of a softer picture's six faults with all that are judged later, and with the next alone.
+#[test]
+fn eleven_last() {
+    let long = [i32::MIN; 65]; // a wrong length, and each a wrong number
+    let wrong = [i32::MIN; 64];
+    assert_eq!(display(2, 9, (19, 64), &long, [1, 2]), Err(Refusal::Side));
+    assert_eq!(display(3, 9, (19, 64), &long, [1, 2]), Err(Refusal::Levels));
+    assert_eq!(display(3, 2, (19, 64), &long, [64, 64]), Err(Refusal::Length));
+    assert_eq!(display(3, 2, (19, 64), &wrong, [63, 64]), Err(Refusal::Length));
+    assert_eq!(display(3, 2, (19, 64), &wrong, [64, 65]), Err(Refusal::Length));
+    assert_eq!(display(3, 2, (19, 64), &wrong, [64, 64]), Err(Refusal::Number));
+    assert_eq!(display(3, 2, (19, 64), &[0; 64], [64, 64]), Err(Refusal::Planes));
+    assert_eq!(display(3, 2, (18, 64), &[0; 64], [64, 64]), Err(Refusal::State));
+
+    assert_eq!(display(2, 9, (0, 0), &[0; 64], [64, 64]), Err(Refusal::Side));
+    assert_eq!(display(3, 9, (0, 0), &[0; 64], [64, 63]), Err(Refusal::Levels));
+    assert_eq!(display(3, 2, (0, 0), &wrong, [64, 63]), Err(Refusal::Length));
+    assert_eq!(display(3, 2, (19, 0), &wrong, [64, 64]), Err(Refusal::Number));
+    assert_eq!(display(3, 2, (0, 64), &[0; 64], [64, 64]), Err(Refusal::State));
+}
+
 #[test]
 fn plain_answers() {
     let refused = raw::Kept {
@@ -603,6 +666,8 @@ fn plain_answers() {
     assert_eq!(raw::inverse(3, 2, &[i32::MIN; 64], &mut [0; 64], &mut [0; 64]), 4);
     assert_eq!(raw::thumbnail(3, 2, 0, &[i32::MIN; 64], &mut [], &mut []), 13);
     assert_eq!(raw::thumbnail(3, 2, 1, &[0; 64], &mut [0; 16], &mut [0; 16]), 0);
+    assert_eq!(raw::display(3, 2, 18, 64, &[1; 64], &mut [0; 64], &mut [0; 64]), 11);
+    assert_eq!(raw::display(3, 2, 18, 63, &[1; 64], &mut [0; 64], &mut [0; 64]), 0);
     assert_eq!(
         raw::write(3, 2, 0, 1, 0, 0, b"417", &[], 0, &mut [0; 512]),
         raw::Blocks { refusal: 7, blocks: 0 }
@@ -624,8 +689,11 @@ fn plain_answers() {
 
 #[test]
 fn names_and_numbers() {
-    assert_eq!(Refusal::ALL.map(Refusal::number), [1, 2, 3, 4, 5, 6, 7, 8, 9, 10, 13]);
-    for number in [0, 11, 12, 14, u32::MAX] {
+    assert_eq!(
+        Refusal::ALL.map(Refusal::number),
+        [1, 2, 3, 4, 5, 6, 7, 8, 9, 10, 11, 13]
+    );
+    for number in [0, 12, 14, u32::MAX] {
         assert_eq!(Refusal::from_number(number), None);
     }
     let mut said = HashSet::new();
@@ -640,7 +708,7 @@ fn names_and_numbers() {
 #[test]
 #[should_panic(expected = "not of this package's version")]
 fn a_refusal_that_there_is_not() {
-    let _ = raw::Planes { refusal: 11, n: 0 }.result();
+    let _ = raw::Planes { refusal: 12, n: 0 }.result();
 }
 
 #[test]

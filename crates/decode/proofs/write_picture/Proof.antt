@@ -4,8 +4,14 @@ use borrow.Author.Needs.{needs}
 use Rattle.decode.proofs.write_picture.Statement.{statement}
 use Rattle.decode.proofs.write_picture.Tie as tie
 
+halvings-requires : tie.Need-halvings-requires
+halvings-requires c κs = search needs
+
 less-requires : tie.Need-less-requires
 less-requires c κs = search needs
+
+wants-softer-requires : tie.Need-wants-softer-requires
+wants-softer-requires c κs = search needs
 
 slice-aggregate-promise : tie.Need-slice-aggregate-promise
 slice-aggregate-promise c = search needs
@@ -47,7 +53,9 @@ pub write-picture-spec : {M : Type 1} → statement M
 write-picture-spec =
     tie.close
     (tie.spec
+    halvings-requires
     less-requires
+    wants-softer-requires
     slice-aggregate-promise
     promise-requires
     array-share-prefix-promise

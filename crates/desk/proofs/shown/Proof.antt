@@ -8,6 +8,12 @@ enum-told c = search needs
 inverse-requires : tie.Need-inverse-requires
 inverse-requires c κs = search needs
 
+enum-told-2 : tie.Need-enum-told-2
+enum-told-2 c = search needs
+
+display-requires : tie.Need-display-requires
+display-requires c κs = search needs
+
 enum-known-wanted : tie.Need-enum-known-wanted
 enum-known-wanted c = search needs
 
@@ -32,6 +38,16 @@ same-length-4 c = search needs
 
 returns-2 : tie.Need-returns-2
 returns-2 c =
+    rw (c .before .before .before .before .before .before .enum-told2 .given .1) (c .before .before .before .display .ensures)
+
+same-length-5 : tie.Need-same-length-5
+same-length-5 c = search needs
+
+same-length-6 : tie.Need-same-length-6
+same-length-6 c = search needs
+
+returns-3 : tie.Need-returns-3
+returns-3 c =
     rw (c .before .before .before .before .before .before .before .wanted .given .1) (c .before .before .before .thumbnail .ensures)
 
 pub shown-spec : {M : Type 1} → statement M
@@ -40,6 +56,8 @@ shown-spec =
     (tie.spec
     enum-told
     inverse-requires
+    enum-told-2
+    display-requires
     enum-known-wanted
     thumbnail-requires
     same-length
@@ -47,4 +65,7 @@ shown-spec =
     returns
     same-length-3
     same-length-4
-    returns-2)
+    returns-2
+    same-length-5
+    same-length-6
+    returns-3)

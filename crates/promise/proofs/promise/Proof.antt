@@ -28,6 +28,9 @@ slice-aggregate-put-figure c = refl
 put-figure-requires : tie.Need-put-figure-requires
 put-figure-requires c κs = tt
 
+put-softer-requires : tie.Need-put-softer-requires
+put-softer-requires c κs = tt
+
 slice-aggregate-put-of-side : tie.Need-slice-aggregate-put-of-side
 slice-aggregate-put-of-side c = refl
 
@@ -54,12 +57,12 @@ put-either-requires c κs = tt
 
 same-length : tie.Need-same-length
 same-length c =
-    omega (arith, c .before .before .before .before .before .before .before .before .before .before .before .before .before .before .before .before .before .before .before .before .before .before .before .before .before .before .before .before .before .before .before .line .given)
+    omega (arith, c .before .before .before .before .before .before .before .before .before .before .before .before .before .before .before .before .before .before .before .before .before .before .before .before .before .before .before .before .before .before .before .before .before .before .before .line .given)
 
 returns : tie.Need-returns
 unfolding promiseOf
 returns c =
-    and-inside _ _ _ (promise-inside _ _ _ _ _ _ _) (rw (← c .before .before .before .before .before .before .before .before .before .before .before .before .before .before .before .before .before .before .before .before .before .before .before .before .before .before .before .before .before .before .before .before .before .before .limit .ensures, c .before .before .before .before .before .before .before .before .before .before .before .before .before .before .before .before .before .before .before .before .before .before .before .before .before .before .before .before .before .before .before .before .put .ensures, c .before .before .before .before .before .before .before .before .before .before .before .before .before .before .before .before .before .before .before .before .before .before .before .before .before .before .before .put2 .ensures, c .before .before .before .before .before .before .before .before .before .before .before .before .before .before .before .before .before .before .before .before .before .before .before .put-word .ensures, c .before .before .before .before .before .before .before .before .before .before .before .before .before .before .before .before .before .before .put-figure .ensures, c .before .before .before .before .before .before .before .before .before .before .before .before .before .put-of-side .ensures, c .before .before .before .before .before .before .before .before .put-figure2 .ensures, of255-is _) (c .before .before .put-either .ensures))
+    and-inside _ _ _ (promise-inside _ _ _ _ _ _ _ _) (rw (of255-is _, ← c .before .before .before .before .before .before .before .before .before .before .before .before .before .before .before .before .before .before .before .before .before .before .before .before .before .before .before .before .before .before .before .before .before .before .before .before .before .before .limit .ensures, ← c .before .before .put-either .ensures, ← c .before .before .before .before .before .before .before .before .put-figure2 .ensures, ← c .before .before .before .before .before .before .before .before .before .before .before .before .before .put-of-side .ensures, ← c .before .before .before .before .before .before .before .before .before .before .before .before .before .before .before .before .before .before .put-softer .ensures, ← c .before .before .before .before .before .before .before .before .before .before .before .before .before .before .before .before .before .before .before .before .before .before .put-figure .ensures, ← c .before .before .before .before .before .before .before .before .before .before .before .before .before .before .before .before .before .before .before .before .before .before .before .before .before .before .before .put-word .ensures, ← c .before .before .before .before .before .before .before .before .before .before .before .before .before .before .before .before .before .before .before .before .before .before .before .before .before .before .before .before .before .before .before .put2 .ensures, ← c .before .before .before .before .before .before .before .before .before .before .before .before .before .before .before .before .before .before .before .before .before .before .before .before .before .before .before .before .before .before .before .before .before .before .before .before .put .ensures) refl)
 
 pub promise-spec : {M : Type 1} → statement M
 promise-spec =
@@ -72,6 +75,7 @@ promise-spec =
     put-word-requires
     slice-aggregate-put-figure
     put-figure-requires
+    put-softer-requires
     slice-aggregate-put-of-side
     put-of-side-requires
     slice-aggregate-put-figure-2

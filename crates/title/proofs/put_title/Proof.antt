@@ -1,7 +1,8 @@
 use mathlib.Core.Path.{refl}
+use native.Mathlib.Omega.{arith}
+use Rattle.pgm.specs.Ascii.{ascii}
 use Rattle.title.specs.Title.{titled}
 use Rattle.worth.proofs.Laws.{thumbnail-is}
-use borrow.Author.Needs.{needs}
 use Rattle.title.proofs.put_title.Statement.{statement}
 use Rattle.title.proofs.put_title.Tie as tie
 
@@ -26,6 +27,9 @@ slice-aggregate-put-either-2 c = refl
 put-either-requires : tie.Need-put-either-requires
 put-either-requires c κs = tt
 
+put-softer-requires : tie.Need-put-softer-requires
+put-softer-requires c κs = tt
+
 slice-aggregate-put-figure : tie.Need-slice-aggregate-put-figure
 slice-aggregate-put-figure c = refl
 
@@ -45,12 +49,13 @@ put-of-side-requires : tie.Need-put-of-side-requires
 put-of-side-requires c κs = tt
 
 same-length : tie.Need-same-length
-same-length c = search needs
+same-length c =
+    omega (arith, c .before .before .before .before .before .before .before .before .before .before .before .before .before .before .before .before .before .before .before .before .before .before .before .before .before .before .before .before .before .before .before .before .line .given)
 
 returns : tie.Need-returns
 unfolding titled
 returns c =
-    rw (c .before .before .before .before .before .before .before .before .before .before .before .before .before .before .before .before .before .before .before .before .before .before .before .before .before .before .before .before .before .put-word .ensures, c .before .before .before .before .before .before .before .before .before .before .before .before .before .before .before .before .before .before .before .before .before .before .before .before .put .ensures, c .before .before .before .before .before .before .before .before .before .before .before .before .before .before .before .before .before .before .before .before .put2 .ensures, thumbnail-is _ _, c .before .before .before .before .before .before .before .before .before .before .before .before .before .before .put-either .ensures, ← c .before .before .before .before .before .before .before .before .before .before .less .ensures, ← c .before .before .before .before .before .before .before .before .before .side .ensures, c .before .before .before .before .before .before .before .put-figure .ensures) (c .before .before .put-of-side .ensures)
+    rw (← c .before .before .put-of-side .ensures, ← c .before .before .before .before .before .before .before .put-figure .ensures, c .before .before .before .before .before .before .before .before .before .side .ensures, c .before .before .before .before .before .before .before .before .before .before .less .ensures, ← c .before .before .before .before .before .before .before .before .before .before .before .before .before .before .put-softer .ensures, ← c .before .before .before .before .before .before .before .before .before .before .before .before .before .before .before .before .before .before .put-either .ensures, ← c .before .before .before .before .before .before .before .before .before .before .before .before .before .before .before .before .before .before .before .before .before .before .before .before .put2 .ensures, ← c .before .before .before .before .before .before .before .before .before .before .before .before .before .before .before .before .before .before .before .before .before .before .before .before .before .before .before .before .put .ensures, ← c .before .before .before .before .before .before .before .before .before .before .before .before .before .before .before .before .before .before .before .before .before .before .before .before .before .before .before .before .before .before .before .before .before .put-word .ensures, thumbnail-is _ (ascii ", thumbnail")) refl
 
 pub put-title-spec : {M : Type 1} → statement M
 put-title-spec =
@@ -63,6 +68,7 @@ put-title-spec =
     slice-aggregate-put-either
     slice-aggregate-put-either-2
     put-either-requires
+    put-softer-requires
     slice-aggregate-put-figure
     less-requires
     side-requires

@@ -6,6 +6,9 @@ use Rattle.verdict.proofs.report.Tie as tie
 put-title-requires : tie.Need-put-title-requires
 put-title-requires c κs = tt
 
+is-long-requires : tie.Need-is-long-requires
+is-long-requires c κs = tt
+
 put-origin-requires : tie.Need-put-origin-requires
 put-origin-requires c κs = tt
 
@@ -27,13 +30,14 @@ same-length c = search needs
 returns : tie.Need-returns
 unfolding reportOf
 returns c =
-    rw (c .before .before .before .before .before .before .before .before .before .before .before .before .before .before .before .before .before .before .before .before .before .before .put-title .ensures, c .before .before .before .before .before .before .before .before .before .before .before .before .before .before .before .before .before .before .put-origin .ensures, c .before .before .before .before .before .before .before .before .before .before .before .before .before .before .put-blocks .ensures, c .before .before .before .before .before .before .before .before .before .before .put-worth .ensures, c .before .before .before .before .before .before .put-planes .ensures) (c .before .before .put .ensures)
+    rw (c .before .before .before .before .before .before .before .before .before .before .before .before .before .before .before .before .before .before .before .before .before .before .before .put-title .ensures, ← c .before .before .before .before .before .before .before .before .before .before .before .before .before .before .before .before .before .before .before .before .is-long .ensures, c .before .before .before .before .before .before .before .before .before .before .before .before .before .before .before .before .before .before .put-origin .ensures, c .before .before .before .before .before .before .before .before .before .before .before .before .before .before .put-blocks .ensures, c .before .before .before .before .before .before .before .before .before .before .put-worth .ensures, c .before .before .before .before .before .before .put-planes .ensures) (c .before .before .put .ensures)
 
 pub report-spec : {M : Type 1} → statement M
 report-spec =
     tie.close
     (tie.spec
     put-title-requires
+    is-long-requires
     put-origin-requires
     put-blocks-requires
     put-worth-requires

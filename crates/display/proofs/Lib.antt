@@ -1,0 +1,3 @@
+-- The laws of the job.
+pub mod Refusals
+pub mod Softened
