@@ -1,4 +1,6 @@
 // What a person gave a program on its command line: options, and numbers in digits.
+#![tactic(auto)]
+
 ghost use Rattle.std.specs.Prelude.{◌≡◌};
 ghost use Rattle.arguments.specs.Words.{is_option};
 

@@ -1,4 +1,6 @@
 // Packed bits: how many are lent, the bit at a place, the next of the first b bits, and one bit put. Bits fill bytes from the high end.
+#![tactic(auto)]
+
 ghost use Rattle.std.specs.Prelude.{◌≡◌, false, ◌+◌, ◌*◌, ◌^◌, ◌<◌, ◌≤◌, leb, length, get_or};
 ghost use Rattle.paper.specs.Bits.{bits};
 ghost use Rattle.bits.specs.Bits.{Sink, with_bit, put1, next_at};

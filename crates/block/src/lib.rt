@@ -1,4 +1,6 @@
 // A 512-byte block: made by value, and checked where it lies.
+#![tactic(auto)]
+
 ghost use Rattle.std.specs.Prelude.{◌≡◌, ◌++◌, ◌-◌, ◌<◌, ◌≤◌, length, take, drop, replicate};
 ghost use Rattle.paper.specs.Lists.{over};
 ghost use Rattle.paper.specs.Block.{edition_in, arm_in, origin_in, block_bytes, header_bytes, checks_start, start_of, header, named, sealed, payload_bytes, edition_of, checks_right, origin_right, fields_right, contents_right};

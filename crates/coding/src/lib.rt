@@ -1,4 +1,6 @@
 // The job coding, with a bit limit: the refusals, then the planes coded into the bytes lent.
+#![tactic(auto)]
+
 ghost use Rattle.std.specs.Prelude.{◌≡◌, ◌*◌, min};
 ghost use Rattle.paper.specs.Jobs.{coding_refusal, coding_job};
 

@@ -1,4 +1,6 @@
 // The library for C and Rust: every job as numbers, slices and plain structs. See console/label.h.
+#![tactic(auto)]
+
 ghost use Rattle.std.specs.Prelude.{◌≡◌};
 ghost use Rattle.paper.specs.Jobs.{forward_job, coding_job, decoding_job, inverse_job, display_job, thumbnail_job, writing_job, reading_job, check_job};
 

@@ -3,6 +3,8 @@
 // Makes the picture of a record, whole or cut anywhere, side 8 to 64, if it has the label expected, or a softer one for the eye,
 // or a thumbnail of it, its side halved R times. Standard error says what it is worth, the verdict first; where something is
 // wrong, it says what, and nothing is written. docs/MEMORY.md has the sum of the buffers.
+#![tactic(auto)]
+
 use desk::{MOST_GREYS, PAYLOAD_ROOM, RECORD_BYTES, Wanted};
 use libc::{STDERR_FILENO, STDIN_FILENO, STDOUT_FILENO};
 use record::Kept;

@@ -1,4 +1,6 @@
 // The job decoding: the refusals, then all S² numbers cleared, and the planes read from the first b bits.
+#![tactic(auto)]
+
 ghost use Rattle.std.specs.Prelude.{◌≡◌, ◌*◌, ◌^◌, ◌<◌, ◌≤◌, min, pos, length, take, replicate};
 ghost use Rattle.paper.specs.Sizes.{most_size, most_planes};
 ghost use Rattle.paper.specs.Bits.{bits};

@@ -1,5 +1,7 @@
 // What the desk's programs do between reading and writing: which picture a PGM holds, a picture made a record, and bits
 // made a picture, a softer one or a thumbnail of it. All memory is lent.
+#![tactic(auto)]
+
 ghost use Rattle.std.specs.Prelude.{◌≡◌, ◌-◌};
 ghost use Rattle.desk.specs.Desk.{area_of, found_of, encoding_of, encoding_in, halvings_of, wants_softer, shown_job, rebuilding_of, rebuilding_in};
 

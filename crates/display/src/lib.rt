@@ -1,6 +1,8 @@
 // The job display: a softer picture, for the eye alone. Each number that isn't zero is shown moved up in magnitude by half of what is
 // still unknown about it; the stored numbers stay. `unfinished` is p, `place` where the cut fell, as decoding gives them.
 // It takes whatever it is given: what is out of range is refused by its number and nothing lent is changed.
+#![tactic(auto)]
+
 ghost use Rattle.std.specs.Prelude.{◌≡◌, true, ◌≤◌, length};
 ghost use Rattle.paper.specs.Sizes.{most_planes, number_limit, numbers_in};
 ghost use Rattle.paper.specs.Walk.{unread_at};

@@ -3,6 +3,8 @@
 // Makes a record of a square picture, side 8 to 64, of all its bits or of the first BITS: of edition 2 where arm and mount number
 // are given, else of edition 1. Where something is wrong, one line on standard error says what, and nothing is written.
 // docs/MEMORY.md has the sum of the buffers.
+#![tactic(auto)]
+
 ghost use Rattle.std.specs.Prelude.{◌≤◌};
 
 use block::BLOCK;

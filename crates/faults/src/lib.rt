@@ -1,4 +1,6 @@
 // What is said of a block that is not kept, as lines in lent room: of a run that it ended, or a record that it refuses.
+#![tactic(auto)]
+
 ghost use Rattle.std.specs.Prelude.{◌≡◌, ◌≤◌, length};
 ghost use Rattle.paper.specs.Block.{block_bytes};
 ghost use Rattle.words.specs.Line.{on, ◌puts◌};

@@ -1,4 +1,6 @@
 // What is read of a block byte by byte and bit by bit: a pair, a comparison, a label, the unused bits.
+#![tactic(auto)]
+
 ghost use Rattle.std.specs.Prelude.{◌≡◌, ◌+◌, ◌<◌, ◌≤◌, length, drop};
 ghost use Rattle.paper.specs.Bits.{bits, all_zero};
 ghost use Rattle.paper.specs.Block.{block_bytes, pair_at, same_bytes, label_character, label_characters, is_label};

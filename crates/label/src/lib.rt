@@ -8,6 +8,8 @@
 // A contract says that the answer and every lent slice at exit equal the job's definition in paper/specs/Jobs.antt at
 // the inputs, so it leaves nothing open (proofs/Settled.antt). The three demands are proofs/Demand1.antt, Demand2.antt
 // and Demand3.antt; docs/PROMISES.md follows them sentence by sentence.
+#![tactic(auto)]
+
 ghost use Rattle.std.specs.Prelude.{◌≡◌};
 ghost use Rattle.paper.specs.Jobs.{forward_job, coding_job, decoding_job, inverse_job, display_job, thumbnail_job, writing_job, reading_job, check_job};
 

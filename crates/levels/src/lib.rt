@@ -1,5 +1,7 @@
 // L levels of a square in Z order, in lent memory. The upper left quarter is the first quarter of the places, so the next
 // level is the same work on a part of the slice.
+#![tactic(auto)]
+
 ghost use Rattle.std.specs.Prelude.{◌≡◌, ◌^◌, ◌<◌, ◌≤◌, length};
 ghost use Rattle.paper.specs.Sizes.{most_size};
 ghost use Rattle.paper.specs.Line.{line_forward, line_back};

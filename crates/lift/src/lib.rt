@@ -1,5 +1,7 @@
 // The steps of the 5/3 rule: one high or low number from its neighbours, and its sample back.
 // A shift to the right rounds towards minus infinity, as the rule asks; a division would round towards zero.
+#![tactic(auto)]
+
 ghost use Rattle.std.specs.Prelude.{◌≡◌};
 ghost use Rattle.paper.specs.Line.{high_of, low_of, odd_of, even_of};
 ghost use Rattle.integer_laws.specs.Order.{Within};

@@ -1,4 +1,6 @@
 // The 5/3 rule on one line, both ways.
+#![tactic(auto)]
+
 ghost use Rattle.std.specs.Prelude.{◌≡◌, ◌+◌, ◌*◌, ◌/◌, ◌-◌, ◌<◌, min, length};
 ghost use Rattle.paper.specs.Line.{high_at, line_forward, even_at, line_back};
 ghost use Rattle.line.specs.Each.{Each, line_limit};

@@ -1,4 +1,6 @@
 // A pass along the lines of a square in Z order, in lent memory: rows or columns, forward or back, by one routine.
+#![tactic(auto)]
+
 ghost use Rattle.std.specs.Prelude.{◌≡◌, ◌*◌, ◌-◌, ◌/◌, ◌^◌, ◌<◌, ◌≤◌, length};
 ghost use Rattle.paper.specs.Sizes.{most_size};
 ghost use Rattle.paper.specs.Square.{place_of, line, along};

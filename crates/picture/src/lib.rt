@@ -1,4 +1,6 @@
 // A picture's way in and out: greys less 128 at their Z places, and greys set into 0 to 255 at their raster places.
+#![tactic(auto)]
+
 ghost use Rattle.std.specs.Prelude.{◌≡◌, ◌^◌, ◌≤◌, pos, ◌+ℤ◌, ◌-ℤ◌, length};
 ghost use Rattle.paper.specs.Sizes.{most_size};
 ghost use Rattle.paper.specs.Lists.{made, at};

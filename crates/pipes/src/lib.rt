@@ -1,5 +1,7 @@
 // Whole reads and writes that go straight to the bytes lent: they have no buffer of their own, so that a program's
 // memory is what its own buffers say.
+#![tactic(auto)]
+
 ghost use Rattle.std.specs.Prelude.{◌≡◌, ◌+◌, ◌≤◌, length};
 ghost use Rattle.io.specs.Counts.{IsPrefixLen};
 

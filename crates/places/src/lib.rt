@@ -1,5 +1,7 @@
 // Raster places and Z places are different kinds of number. The two conversions here are the only passage between them:
 // nobody else can open a place or make one from the other. Greys are reached by raster places, wavelet numbers by Z places.
+#![tactic(auto)]
+
 ghost use Rattle.std.specs.Prelude.{◌≡◌, ◌+◌, ◌*◌, ◌^◌, ◌<◌, ◌≤◌, length, get_or, set};
 ghost use Rattle.paper.specs.Sizes.{most_size};
 ghost use Rattle.paper.specs.Lists.{at};

@@ -1,5 +1,7 @@
 // The coder's walk over planes: the rest behind the first set, one plane, and the planes from the highest down. Each
 // function puts its bits behind those that are there and answers the next place; at the limit nothing more is put.
+#![tactic(auto)]
+
 ghost use Rattle.std.specs.Prelude.{◌≡◌, true, ◌*◌, ◌<◌, ◌≤◌, length};
 ghost use Rattle.paper.specs.Sizes.{most_planes, numbers_in};
 ghost use Rattle.paper.specs.Walk.{Coder, walk_rest, walk_plane, walk_planes};

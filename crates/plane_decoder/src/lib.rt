@@ -1,5 +1,7 @@
 // The decoder's walk over planes: the rest behind the first set, one plane, and the planes from the highest on until a
 // bit is missing.
+#![tactic(auto)]
+
 ghost use Rattle.std.specs.Prelude.{suc, ◌<◌, ◌≤◌, length};
 ghost use Rattle.paper.specs.Sizes.{most_planes};
 ghost use Rattle.paper.specs.Walk.{Decoder, walk_rest, walk_plane, walk_planes};

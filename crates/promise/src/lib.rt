@@ -1,5 +1,7 @@
 // The promise that travels with a picture, or with a thumbnail, in its own file. Halvings, how often a thumbnail's side was halved,
 // are 0 for the picture itself; softer says that a softer one was asked for.
+#![tactic(auto)]
+
 ghost use Rattle.std.specs.Prelude.{◌≡◌, ◌≤◌, length};
 ghost use Rattle.words.specs.Line.{on};
 ghost use Rattle.promise.specs.Promise.{promise_of};

@@ -1,4 +1,6 @@
 // What a reader keeps of lent blocks: a pass that only looks, and a pass that copies the kept payload.
+#![tactic(auto)]
+
 ghost use Rattle.std.specs.Prelude.{◌≡◌, ◌++◌, ◌+◌, ◌*◌, ◌<◌, ◌≤◌, length, take, drop};
 ghost use Rattle.paper.specs.Lists.{joined, over};
 ghost use Rattle.paper.specs.Block.{block_bytes, header_bytes, checks_start, numbered_blocks, same_bytes, named_of, arm_of, mount_of, payload_of, payload_bytes, payload_bits};

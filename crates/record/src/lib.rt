@@ -1,4 +1,6 @@
 // Record writing and record reading: the two jobs, with their rows of the refusal table.
+#![tactic(auto)]
+
 ghost use Rattle.std.specs.Prelude.{◌≡◌, true, ◌&&◌, List, ℕ, ◌+◌, ◌*◌, ◌/◌, ◌≤◌, leb, length};
 ghost use Rattle.paper.specs.Sizes.{size_in, planes_in, most_bits, unless};
 ghost use Rattle.paper.specs.Block.{is_label, edition_in, origin_in, given_back, block_bytes, header_bytes, byte_at, edition_of, arm_of, mount_of};

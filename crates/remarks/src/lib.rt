@@ -1,4 +1,6 @@
 // What the programs remark to a person when they refuse: a refusal's meaning and its number, as a line in lent room.
+#![tactic(auto)]
+
 ghost use Rattle.std.specs.Prelude.{◌≡◌};
 ghost use Rattle.words.specs.Line.{on, ◌puts◌};
 ghost use Rattle.remarks.specs.Said.{meaning, refused_of};

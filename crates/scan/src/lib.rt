@@ -1,4 +1,6 @@
 // The set test: what a set shows on plane p, found by one scan that ends at the first magnitude of 2T or more.
+#![tactic(auto)]
+
 ghost use Rattle.std.specs.Prelude.{◌≡◌, true, ◌^◌, ◌<◌};
 ghost use Rattle.paper.specs.Sizes.{most_planes, numbers_in};
 ghost use Rattle.scan.specs.Seen.{seen_of};

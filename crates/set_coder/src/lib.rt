@@ -1,5 +1,7 @@
 // The coder's walk over a set: a test, a number, four numbers, and a set that calls itself on its quarters. Each function
 // puts its bits behind those that are there and answers the next place; at the limit nothing more is put.
+#![tactic(auto)]
+
 ghost use Rattle.std.specs.Prelude.{◌≡◌, true, [], ◌∷◌, ◌*◌, ◌<◌, ◌≤◌, length};
 ghost use Rattle.paper.specs.Sizes.{number_limit, most_planes, numbers_in};
 ghost use Rattle.paper.specs.Walk.{Coder, test_set, walk_number, walk_numbers, walk_set};

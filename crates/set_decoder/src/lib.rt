@@ -1,4 +1,6 @@
 // The decoder's walk over a set: a test, a number, four numbers, and a set that calls itself on its quarters.
+#![tactic(auto)]
+
 ghost use Rattle.std.specs.Prelude.{◌≡◌, [], ◌∷◌, suc, ◌+◌, ◌^◌, ◌<◌, ◌≤◌, nat_abs, length};
 ghost use Rattle.paper.specs.Sizes.{most_planes};
 ghost use Rattle.paper.specs.Walk.{signed, Decoder, test_set, walk_number, walk_numbers, walk_set};

@@ -1,4 +1,6 @@
 // The shapes of lists that the walk cuts, and the one that the sizes give: the first set.
+#![tactic(auto)]
+
 ghost use Rattle.std.specs.Prelude.{◌≡◌, suc, ◌^◌, ◌<◌, ◌≤◌};
 ghost use Rattle.paper.specs.Sizes.{most_size};
 ghost use Rattle.paper.specs.Walk.{depth};

@@ -1,4 +1,6 @@
 // The paper's sizes and limits: which sides, levels, planes and numbers are in range, and what follows from them.
+#![tactic(auto)]
+
 ghost use Rattle.std.specs.Prelude.{◌≡◌, true, ◌+◌, ◌*◌, ◌-◌, ◌/◌, ◌^◌, ◌<◌, ◌≤◌, max, leb, nat_abs};
 ghost use Rattle.integer_laws.specs.Order.{Within};
 ghost use Rattle.paper.specs.Sizes.{most_size, size_in, levels_in, planes_in, numbers_in, number_limit, most_planes, most_bits, grey_limit};

@@ -1,5 +1,7 @@
 // A bit source as one thing: lent bytes with a bit count and a place. The work is that of `bits::read_bit`, on plain slice
 // and numbers; the struct only holds what it is lent, and `bit_from` serves whoever would not hold the struct.
+#![tactic(auto)]
+
 ghost use Rattle.std.specs.Prelude.{◌≡◌, ◌+◌, ◌*◌, ◌^◌, ◌<◌, ◌≤◌, length};
 ghost use Rattle.bits.specs.Bits.{next_at};
 

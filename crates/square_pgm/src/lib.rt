@@ -1,4 +1,6 @@
 // Squares of side 2 ^ k as PGM: a picture's k from a header's width and height, and a header from the k of what is shown.
+#![tactic(auto)]
+
 ghost use Rattle.std.specs.Prelude.{◌≡◌};
 ghost use Rattle.words.specs.Line.{on};
 ghost use Rattle.square_pgm.specs.Sides.{shown_size, side_of};

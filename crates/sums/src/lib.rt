@@ -1,4 +1,6 @@
 // The two checks of a block, each of its bytes 0 to 507.
+#![tactic(auto)]
+
 ghost use Rattle.std.specs.Prelude.{◌≡◌, ◌≤◌, length};
 ghost use Rattle.paper.specs.Block.{check_a, check_b, checks_start};
 

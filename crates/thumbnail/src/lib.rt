@@ -1,6 +1,8 @@
 // The job thumbnail: a picture with its side halved r times, from the first numbers alone. It is the inverse that stops r levels
 // early: those of the larger squares are not undone. `halvings` is r.
 // It takes whatever it is given: what is out of range is refused by its number and nothing lent is changed.
+#![tactic(auto)]
+
 ghost use Rattle.std.specs.Prelude.{◌≡◌};
 ghost use Rattle.paper.specs.Sizes.{halvings_in};
 ghost use Rattle.paper.specs.Jobs.{thumbnail_refusal, thumbnail_job};

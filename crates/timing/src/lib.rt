@@ -1,6 +1,8 @@
 // What tools/bench times of `places`: places of a square, one behind the other, taken to the other kind, and rows and columns taken
 // to Z places. What lies there is brought together and answered, so that no conversion can be left out. It promises nothing but to
 // end and to reach what is there, and it is proved over each tree that is timed.
+#![tactic(auto)]
+
 ghost use Rattle.std.specs.Prelude.{◌≡◌, ◌^◌, ◌≤◌, length};
 ghost use Rattle.paper.specs.Sizes.{most_size};
 

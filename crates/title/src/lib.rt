@@ -1,5 +1,7 @@
 // The title of what decode says of a picture, plain or softer, or of a thumbnail, in lent room: the verdict, label and side, arm and
 // mount, blocks.
+#![tactic(auto)]
+
 ghost use Rattle.std.specs.Prelude.{◌≡◌};
 ghost use Rattle.words.specs.Line.{on};
 ghost use Rattle.title.specs.Title.{titled, is_long, shot_by, awaits, counted};

@@ -1,5 +1,7 @@
 // The jobs forward and inverse: a picture's wavelet numbers, and the picture that wavelet numbers give back.
 // Both take whatever they are given: what is out of range is refused by its number and nothing lent is changed.
+#![tactic(auto)]
+
 ghost use Rattle.std.specs.Prelude.{◌≡◌, true, ◌&&◌, ◌^◌, ◌≤◌, length};
 ghost use Rattle.paper.specs.Sizes.{most_size, most_levels, size_in, levels_in, numbers_in};
 ghost use Rattle.paper.specs.Square.{numbers_of, greys_of, pictured};

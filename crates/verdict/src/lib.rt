@@ -1,5 +1,7 @@
 // What decode says of a picture, or of a thumbnail, as lines in lent room: the verdict first, then what it is worth. Halvings, how
 // often a thumbnail's side was halved, are 0 for the picture itself; softer says that a softer one was asked for.
+#![tactic(auto)]
+
 ghost use Rattle.std.specs.Prelude.{◌≡◌};
 ghost use Rattle.words.specs.Line.{on};
 ghost use Rattle.verdict.specs.Verdict.{share_of, running, planes, report_of};

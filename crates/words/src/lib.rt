@@ -1,11 +1,13 @@
 // A line of text, written into lent room piece by piece: texts, and numbers in decimal.
+#![tactic(auto)]
+
 ghost use Rattle.std.specs.Prelude.{◌≡◌};
 ghost use Rattle.paper.specs.Lists.{pick};
 ghost use Rattle.words.specs.Line.{on, ◌puts◌, figure};
 
 // `text` at place `at` of the line, if there is room for all of it; the place behind it.
 pub fn put(text: &[u8], line: &mut [u8], at: usize) -> usize
-    ensures { on line.old at puts (λ x. x.now) text.entry ≡ on line.new result }
+    ensures { on line.old at puts text.now ≡ on line.new result }
 {
     if line.len() < at {
         return at;
@@ -27,7 +29,7 @@ pub fn put_number(number: u64, line: &mut [u8], at: usize) -> usize
 
 // A text with a number behind it.
 pub fn put_figure(text: &[u8], number: u64, line: &mut [u8], at: usize) -> usize
-    ensures { on line.old at puts (λ x. x.now) text.entry puts figure number ≡ on line.new result }
+    ensures { on line.old at puts text.now puts figure number ≡ on line.new result }
 {
     let next = put(text, line, at);
     put_number(number, line, next)
@@ -42,7 +44,7 @@ pub fn put_figures(
     line: &mut [u8],
     at: usize,
 ) -> usize
-    ensures { on line.old at puts (λ x. x.now) one.entry puts figure first puts (λ x. x.now) other.entry puts figure second ≡ on line.new result }
+    ensures { on line.old at puts one.now puts figure first puts other.now puts figure second ≡ on line.new result }
 {
     let next = put_figure(one, first, line, at);
     put_figure(other, second, line, next)

@@ -1,5 +1,7 @@
 // What was decoded, a picture or a thumbnail, and what its greys are worth, as lines in lent room. Halvings, how often a
 // thumbnail's side was halved, are 0 for the picture itself; softer says that a softer one was asked for.
+#![tactic(auto)]
+
 ghost use Rattle.std.specs.Prelude.{◌≡◌, ◌-◌, eqb};
 ghost use Rattle.paper.specs.Sizes.{grey_limit};
 ghost use Rattle.words.specs.Line.{on, ◌puts◌, figure};

@@ -1,4 +1,6 @@
 // The blocks of a record: cut from the first b bits of lent bytes, made by value, and put at the front of lent room.
+#![tactic(auto)]
+
 ghost use Rattle.std.specs.Prelude.{◌≡◌, ◌++◌, ◌+◌, ◌*◌, ◌-◌, ◌^◌, ◌<◌, ◌≤◌, min, length, take, drop, replicate};
 ghost use Rattle.paper.specs.Lists.{joined};
 ghost use Rattle.paper.specs.Bits.{bits, byte_of, packed};
