@@ -1,5 +1,5 @@
 -- An integer in a signed 32-bit machine number.
-use Rattle.std.specs.Prelude.{◌≡◌, ℕ, ◌^◌, ◌<◌, ◌≤◌, T, ltb, leb, ℤ}
+use Rattle.std.specs.Prelude.{◌≡◌, ℕ, ◌^◌, ◌<◌, T, ltb, leb, ℤ}
 use Rattle.std.proofs.Common.{arith, ltb→lt, leb→le, SFits, to_z, of_z, to_z-of_z}
 use Rattle.std.specs.Int.{w32}
 use Rattle.integer_laws.specs.Difference.{split}

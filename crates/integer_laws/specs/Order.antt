@@ -2,7 +2,7 @@
 -- With them nearly every fact over ℤ is one line: rw (split x, split y) (simp ints (omega zarith)).
 use Rattle.std.specs.Prelude.{◌≡◌, Bool, true, false, not, ℕ, suc, ◌+◌, ◌-◌, ◌^◌, ◌<◌, ◌≤◌, T, ℤ, pos, negsuc, nat_abs, ◌≤ℤ◌, ◌<ℤ◌}
 use Rattle.std.proofs.Common.{sym, ap, ◌∙◌, subst, arith, lt→ltb, le→leb, leb→le, ltb→lt}
-use Rattle.std.specs.Int.Signed.{mag, lt_z, le_z, le_z_yes, lt_z_yes, lt_z_no, non_neg}
+use Rattle.std.specs.Int.Signed.{lt_z, le_z, le_z_yes, lt_z_yes, lt_z_no, non_neg}
 use Rattle.std.specs.Int.{Width}
 use mir.Val.{SFits, hbits}
 use Rattle.integer_laws.specs.Difference.{◌⊖◌, ⊖-cases, ⊖-pos, ⊖-eq, pos-⊖, negsuc-⊖, neg-⊖, add-⊖, shr2-⊖, shr4-⊖, abs-⊖, mag-⊖, mul-⊖, up, dn, split, up-⊖, dn-⊖, abs_split}

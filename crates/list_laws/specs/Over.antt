@@ -1,6 +1,6 @@
 -- A list laid over the front of another, one place at a time or at once, and a part laid behind a front.
 use Rattle.std.specs.Prelude.{◌≡◌, List, ◌++◌, ℕ, suc, ◌+◌, ◌<◌, length, take, drop, get_or, set}
-use Rattle.std.proofs.Common.{ap, ◌∙◌, sym, append_assoc, append-nil, le_of_lt, add-one, arith, drop-cons, take-suc, length-take-le, drop-drop, take_at, drop_at}
+use Rattle.std.proofs.Common.{ap, ◌∙◌, sym, append_assoc, append-nil, le_of_lt, add-one, drop-cons, take-suc, length-take-le, drop-drop, take_at, drop_at}
 use Rattle.std.proofs.lemmas.List.{set_at}
 use Rattle.std.proofs.Math.Seq.{take-length, drop-length}
 use Rattle.paper.specs.Lists.{over}

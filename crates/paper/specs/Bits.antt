@@ -1,5 +1,5 @@
 -- Bits fill bytes from the high end.
-use Rattle.std.specs.Prelude.{Bool, true, false, List, [], ◌∷◌, ◌++◌, ℕ, zero, suc, ◌+◌, ◌*◌, drop}
+use Rattle.std.specs.Prelude.{Bool, true, false, List, [], ◌∷◌, ◌++◌, ℕ, zero, suc, ◌+◌, drop}
 use Rattle.paper.specs.Walk.{bit_of, worth}
 
 -- the eight bits of a byte, highest first

@@ -1,5 +1,5 @@
 -- Sizes and limits, each behind one name, and how a refusal is judged: the first row that applies, 0 if none.
-use Rattle.std.specs.Prelude.{Bool, true, false, not, ◌&&◌, ℕ, zero, suc, ◌+◌, ◌*◌, ◌-◌, ◌/◌, ◌^◌, min, leb, ℤ, nat_abs, List, [], ◌∷◌}
+use Rattle.std.specs.Prelude.{Bool, true, false, ◌&&◌, ℕ, zero, suc, ◌+◌, ◌*◌, ◌-◌, ◌/◌, ◌^◌, min, leb, ℤ, nat_abs, List, [], ◌∷◌}
 
 -- the least and the largest k of a side 2 ^ k
 abbrev pub least_size : ℕ

@@ -1,6 +1,6 @@
 -- The 5/3 rule on a square in Z order, over L levels, and a picture's way in and out.
 -- In Z order the upper left quarter of a square is the first quarter of its places.
-use Rattle.std.specs.Prelude.{Bool, true, false, List, [], ◌∷◌, ◌++◌, map, ℕ, zero, suc, ◌+◌, ◌*◌, ◌-◌, ◌^◌, min, get_or, take, drop, ℤ, pos, negsuc, ◌+ℤ◌, ◌-ℤ◌}
+use Rattle.std.specs.Prelude.{Bool, true, false, List, ◌++◌, ℕ, zero, suc, ◌-◌, ◌^◌, min, get_or, take, drop, ℤ, pos, negsuc, ◌+ℤ◌, ◌-ℤ◌}
 use Rattle.paper.specs.Lists.{made, at}
 use Rattle.paper.specs.Line.{line_forward, line_back}
 use Rattle.paper.specs.Places.{interleaved, row_of, column_of, z_of, raster_of}

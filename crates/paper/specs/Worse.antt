@@ -1,12 +1,12 @@
 -- The sixth slip: claiming that greys, like numbers, only improve. It is false, by an example: a flat picture but for one
 -- grey. Its first three bits settle a low number, and a grey that was right is off by one.
-use Rattle.std.specs.Prelude.{◌≡◌, List, [], ◌∷◌, ℕ, ◌+◌, ◌-◌, ◌≤◌, take, replicate, get_or, ℤ, pos, nat_abs, ◌-ℤ◌}
+use Rattle.std.specs.Prelude.{List, ◌∷◌, ℕ, ◌+◌, ◌-◌, ◌≤◌, take, replicate, get_or, ℤ, pos, nat_abs, ◌-ℤ◌}
 use Rattle.std.proofs.Common.{arith}
 use Rattle.paper.specs.Lists.{made, at}
 use Rattle.paper.specs.Line.{high_of, low_of, odd_of, even_of, high_at, low_at, even_at, odd_at, woven, line_forward, line_back}
 use Rattle.paper.specs.Places.{interleaved, column_of, row_of, z_of, raster_of}
 use Rattle.paper.specs.Square.{place_of, line_of, spot_of, line, along, level_forward, level_back, on_first, levels_forward, levels_back, lowered, raised, grey, pictured, numbers_of, greys_of}
-use Rattle.paper.specs.Walk.{bit_of, reaches, largest, bits_needed, plane_count, test_set, refined, begun, walk_number, ◌next◌, walk_numbers, walk_set, walk_rest, walk_plane, walk_planes, code_of, Settled, decode_of, unread_at}
+use Rattle.paper.specs.Walk.{bit_of, reaches, largest, bits_needed, plane_count, test_set, refined, begun, walk_number, ◌next◌, walk_numbers, walk_set, walk_rest, walk_plane, walk_planes, code_of, decode_of, unread_at}
 use Rattle.paper.specs.Softer.{half_of, moved_up_lem, softened}
 
 -- what the first b bits of a picture of side 8, two levels, show at a raster place

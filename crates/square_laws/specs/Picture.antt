@@ -1,8 +1,8 @@
 -- What the paper asks of a picture: it comes back whole, and greys are off by at most (7 L + 1) times what the wavelet
 -- numbers are off by, before and after they are set into 0 to 255.
-use Rattle.std.specs.Prelude.{◌≡◌, refl, List, ℕ, ◌+◌, ◌*◌, ◌-◌, ◌^◌, ◌<◌, ◌≤◌, min, length, get_or, ℤ, pos, ◌+ℤ◌, ◌-ℤ◌}
+use Rattle.std.specs.Prelude.{◌≡◌, refl, List, ℕ, ◌+◌, ◌*◌, ◌-◌, ◌^◌, ◌<◌, ◌≤◌, min, length, get_or, pos, ◌+ℤ◌, ◌-ℤ◌}
 use Rattle.std.proofs.Common.{sym, ap, ◌∙◌, arith, ext_get_or}
-use Rattle.std.proofs.Math.IntN.{-ℤ-+ℤ_cancel}
+use Rattle.std.proofs.Math.IntN.{ℤ, -ℤ-+ℤ_cancel}
 use Rattle.paper.specs.Lists.{at, Bytes}
 use Rattle.paper.specs.Places.{z_of, raster_of}
 use Rattle.paper.specs.Square.{lowered, raised, grey, pictured, numbers_of, greys_of}
