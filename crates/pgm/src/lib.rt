@@ -1,3 +1,5 @@
+#![tactic(auto)]
+
 // The header of a binary PGM (P5), read and written.
 ghost use Rattle.std.specs.Prelude.{◌≡◌, true, false, ◌+◌, ◌≤◌, drop};
 ghost use Rattle.pgm.specs.Header.{is_space, is_line_end, is_digit, is_passed, is_inside, past_space, past_line, most_number, with_digit, number_from, whole_number, field_at, raster_at, past_magic, header_of};
