@@ -1,3 +1,5 @@
+#![tactic(auto)]
+
 // A line of text, written into lent room piece by piece: texts, and numbers in decimal.
 ghost use Rattle.std.specs.Prelude.{◌≡◌};
 ghost use Rattle.paper.specs.Lists.{pick};
@@ -5,7 +7,7 @@ ghost use Rattle.words.specs.Line.{on, ◌puts◌, figure};
 
 // `text` at place `at` of the line, if there is room for all of it; the place behind it.
 pub fn put(text: &[u8], line: &mut [u8], at: usize) -> usize
-    ensures { on line.old at puts (λ x. x.now) text.entry ≡ on line.new result }
+    ensures { on line.old at puts text.now ≡ on line.new result }
 {
     if line.len() < at {
         return at;
@@ -13,7 +15,9 @@ pub fn put(text: &[u8], line: &mut [u8], at: usize) -> usize
     if line.len() - at < text.len() {
         return at;
     }
-    at + bytes::copy(text, &mut line[at..])
+    let next = at + text.len();
+    line[at..next].copy_from_slice(text);
+    next
 }
 
 // A number in decimal.
@@ -21,13 +25,20 @@ pub fn put_number(number: u64, line: &mut [u8], at: usize) -> usize
     ensures { on line.old at puts figure number ≡ on line.new result }
 {
     let mut digits = [0u8; 20];
-    let count = io::decimal(number, &mut digits);
-    put(&digits[..count], line, at)
+    let mut first = 19;
+    let mut rest = number;
+    while 10 <= rest {
+        digits[first] = b'0' + (rest % 10) as u8;
+        first -= 1;
+        rest /= 10;
+    }
+    digits[first] = b'0' + rest as u8;
+    put(&digits[first..], line, at)
 }
 
 // A text with a number behind it.
 pub fn put_figure(text: &[u8], number: u64, line: &mut [u8], at: usize) -> usize
-    ensures { on line.old at puts (λ x. x.now) text.entry puts figure number ≡ on line.new result }
+    ensures { on line.old at puts text.now puts figure number ≡ on line.new result }
 {
     let next = put(text, line, at);
     put_number(number, line, next)
@@ -42,7 +53,7 @@ pub fn put_figures(
     line: &mut [u8],
     at: usize,
 ) -> usize
-    ensures { on line.old at puts (λ x. x.now) one.entry puts figure first puts (λ x. x.now) other.entry puts figure second ≡ on line.new result }
+    ensures { on line.old at puts one.now puts figure first puts other.now puts figure second ≡ on line.new result }
 {
     let next = put_figure(one, first, line, at);
     put_figure(other, second, line, next)
