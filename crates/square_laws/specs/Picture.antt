@@ -6,7 +6,7 @@ use Rattle.std.proofs.Math.IntN.{ℤ, -ℤ-+ℤ_cancel}
 use Rattle.paper.specs.Lists.{at, Bytes}
 use Rattle.paper.specs.Places.{z_of, raster_of}
 use Rattle.paper.specs.Square.{lowered, raised, grey, pictured, numbers_of, greys_of}
-use Rattle.integer_laws.specs.Difference.{_⊖_, ⊖-cases, split}
+use Rattle.integer_laws.specs.Difference.{◌⊖◌, ⊖-cases, split}
 use Rattle.integer_laws.specs.Order.{ints}
 use Rattle.places.proofs.Round.{z_below, raster_of_z}
 use Rattle.lift.specs.Off.{Over, Off}

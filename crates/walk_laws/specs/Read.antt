@@ -136,10 +136,10 @@ reads_test p xs = go (reaches (2 ^ suc p) xs) refl
   where
     go : (b : Bool) → reaches (2 ^ suc p) xs ≡ b → Reads {A = Bool} Any 1 (test_set Decoder p xs)
     go true e = rw (test_known Decoder p xs e) (reads_more 1 (omega arith) (reads_done {P = Any} true (λ _. tt)))
-    go false e = rw (test_asks Decoder p xs e) (reads_both (λ b. Decoder.done (is_one Decoder b)) (reads_bit _) (λ _ b _. reads_done {P = Any} (is_one Decoder b) (λ _. tt)))
+    go false e = rw (test_asks Decoder p xs e) (reads_both (λ b. Decoder.done (is_one Decoder b)) (reads_bit (Due.test (length xs))) (λ _ b _. reads_done {P = Any} (is_one Decoder b) (λ _. tt)))
 
 reads_sign : (p : ℕ) (x : ℤ) (o : Bool) → Reads (Length 1) 1 (after_bit Decoder p x o)
-reads_sign p x true = reads_both (λ s. Decoder.done (begun Decoder p x s ∷ [])) (reads_bit _) (λ _ s _. reads_done {P = Length 1} (begun Decoder p x s ∷ []) (λ _. refl))
+reads_sign p x true = reads_both (λ s. Decoder.done (begun Decoder p x s ∷ [])) (reads_bit Due.sign) (λ _ s _. reads_done {P = Length 1} (begun Decoder p x s ∷ []) (λ _. refl))
 reads_sign p x false = reads_more 1 (omega arith) (reads_done {P = Length 1} (x ∷ []) (λ _. refl))
 
 reads_number : (p : ℕ) (x : ℤ) → Reads (Length 1) 2 (walk_number Decoder p x)
@@ -148,8 +148,8 @@ reads_number p x = go (leb (2 ^ suc p) (nat_abs x)) refl
     go : (b : Bool) → leb (2 ^ suc p) (nat_abs x) ≡ b → Reads (Length 1) 2 (walk_number Decoder p x)
     go true e =
         rw (number_known Decoder p x e)
-        (reads_more 2 (omega arith) (reads_both (λ b. Decoder.done (refined Decoder p x b ∷ [])) (reads_bit _) (λ _ b _. reads_done {P = Length 1} (refined Decoder p x b ∷ []) (λ _. refl))))
-    go false e = rw (number_asks Decoder p x e) (reads_both (λ b. after_bit Decoder p x (is_one Decoder b)) (reads_bit _) (λ _ b _. reads_sign p x (is_one Decoder b)))
+        (reads_more 2 (omega arith) (reads_both (λ b. Decoder.done (refined Decoder p x b ∷ [])) (reads_bit Due.more) (λ _ b _. reads_done {P = Length 1} (refined Decoder p x b ∷ []) (λ _. refl))))
+    go false e = rw (number_asks Decoder p x e) (reads_both (λ b. after_bit Decoder p x (is_one Decoder b)) (reads_bit (Due.test 1)) (λ _ b _. reads_sign p x (is_one Decoder b)))
 
 pub reads_next : {m n K J : ℕ} {f g : Decodes (List ℤ)} (s : ℕ) → m + n ≡ s → Reads (Length m) K f → Reads (Length n) J g → Reads (Length s) (K + J) (◌next◌ Decoder f g)
 unfolding ◌next◌

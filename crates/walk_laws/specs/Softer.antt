@@ -27,12 +27,12 @@ pub moved_zero : (h : ℕ) (x : ℤ) → x ≡ pos 0 → moved_up_lem h x ≡ x
 unfolding moved_up_lem
 moved_zero h x e = rw e
 
-pub moved_up_lem : (h : ℕ) (x : ℤ) → 0 < nat_abs x → moved_up_lem h x ≡ signed (negative x) (nat_abs x + h)
+pub moved_up_is : (h : ℕ) (x : ℤ) → 0 < nat_abs x → moved_up_lem h x ≡ signed (negative x) (nat_abs x + h)
 unfolding moved_up_lem
-moved_up_lem h x k = rw (ne_eqb (nat_abs x) 0 (λ e. omega arith))
+moved_up_is h x k = rw (ne_eqb (nat_abs x) 0 (λ e. omega arith))
 
 moved_signed : (h : ℕ) (s : Bool) (m : ℕ) → moved_up_lem h (signed s (suc m)) ≡ signed s (suc m + h)
-moved_signed h s m = moved_up_lem h (signed s (suc m)) (omega (arith, nat_abs_signed s (suc m))) ∙ rw (negative_signed s (suc m) (omega arith), nat_abs_signed s (suc m))
+moved_signed h s m = moved_up_is h (signed s (suc m)) (omega (arith, nat_abs_signed s (suc m))) ∙ rw (negative_signed s (suc m) (omega arith), nat_abs_signed s (suc m))
 
 -- a magnitude from c on and below c + 2 ^ u, shown as c and half of that
 half_near : (u m c : ℕ) → 1 ≤ u → c ≤ m → m < c + 2 ^ u → (m - (c + half_of u)) + (c + half_of u - m) ≤ 2 ^ (u - 1)
