@@ -22,7 +22,7 @@ pub const ROOM: usize = CHECKS - HEADER;
 const MOST_MOUNT: u32 = 16777215;
 
 // What the blocks of a record say of themselves, all but the label.
-#[derive(Drop)]
+#[derive(Clone, Copy)]
 pub struct Heading {
     pub edition: u8,
     pub k: u8,
