@@ -1,0 +1,34 @@
+-- `pass::gather` meets its contract. After i turns the first i numbers of the line stand in `out`.
+use mathlib.Core.Path.{refl, ap, ◌∙◌}
+use Prim.Native.Nat.{◌^◌}
+use native.Mathlib.Omega.{arith}
+use lib.ListN.{length-set}
+use lib.IntN.{pos}
+use mir.Facts.{to_z-of_z}
+use Rattle.paper.specs.Lists.{at}
+use Rattle.paper.specs.Square.{place_of, line}
+use Rattle.list_laws.specs.Made.{filled_none, filled_more, filled_all}
+use Rattle.square_laws.specs.Grid.{place_below}
+use mir.Syntax.{w32}
+use Rattle.pass.proofs.gather.Goals as goal
+
+pub loop-i-init : goal.loop-i-init
+loop-i-init c = (omega arith, refl, filled_none _ _ _)
+
+pub number_at-requires : goal.number_at-requires
+number_at-requires c =
+    let a = c.args in
+    omega (arith, c.place.ensures, place_below a.j a.down a.l c.loop-i.i)
+
+pub loop-i-preserved : goal.loop-i-preserved
+loop-i-preserved c =
+    let a = c.args in (
+      omega arith,
+      simp length-set c.loop-i.invariant.1,
+      filled_more (pos 0) (λ i. at a.xs.now (place_of a.j a.down a.l i)) c.loop-i.i c.loop-i.out _ (omega arith) c.loop-i.invariant.2
+          (to_z-of_z {w = w32} (record { sfits = c.number_at.type_inv }) ∙ c.number_at.ensures ∙ ap (at a.xs.now) c.place.ensures),
+    )
+
+pub returns : goal.returns
+unfolding line
+returns c = filled_all (pos 0) _ (2 ^ c.args.j) c.loop-i.i c.loop-i.out (omega arith) (omega arith) c.loop-i.invariant.2

@@ -1,0 +1,29 @@
+-- `pass::scatter` meets its contract. After i turns the first i numbers of `v` stand on the line.
+use mathlib.Core.Path.{◌≡◌}
+use Prim.Native.Nat.{◌^◌}
+use native.Mathlib.Omega.{arith}
+use mir.Facts.{to_z-of_z}
+use mir.Syntax.{w32}
+use Rattle.square_laws.specs.Grid.{place_below}
+use Rattle.pass.proofs.Lines.{put_none, put_more}
+use Rattle.pass.proofs.scatter.Goals as goal
+
+pub loop-i-init : goal.loop-i-init
+loop-i-init c = (omega arith, put_none _ _ _ _ _)
+
+pub set_number-requires : goal.set_number-requires
+set_number-requires c =
+    let a = c.args in
+    omega (arith, c.place.ensures, place_below a.j a.down a.l c.loop-i.i, c.loop-i.invariant.1.size)
+
+pub loop-i-preserved : goal.loop-i-preserved
+loop-i-preserved c =
+    let a = c.args in (
+      omega arith,
+      rw (c.set_number.ensures, c.place.ensures) (put_more a.j a.down a.l c.loop-i.i a.v.now a.xs.now c.loop-i.xs _ c.requires.l_bound (omega arith) c.requires.xs_len c.loop-i.invariant.1 (to_z-of_z {w = w32} (record { sfits = c.set_number-arg-in-loop-i-1.given }))),
+    )
+
+pub returns : goal.returns
+returns c =
+    let q : c.loop-i.i ≡ 2 ^ c.args.j = omega arith in
+    rw q at c.loop-i.invariant.1
