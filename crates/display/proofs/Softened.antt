@@ -11,7 +11,7 @@ use lib.IntN.{ℤ, pos, negsuc, nat_abs}
 use Rattle.paper.specs.Sizes.{most_levels, most_planes, number_limit, numbers_in}
 use Rattle.paper.specs.Lists.{pick}
 use Rattle.paper.specs.Walk.{negative, signed, unread_at}
-use Rattle.paper.specs.Softer.{half_of, moved_up_lem, softened}
+use Rattle.paper.specs.Softer.{half_of, moved_up, softened}
 use Rattle.integer_laws.specs.Order.{Within}
 use Rattle.line.proofs.Sized.{each_made}
 use Rattle.square_laws.specs.Near.{grown}
@@ -20,7 +20,7 @@ use Rattle.square_laws.specs.Numbers.{in_each}
 use Rattle.levels.specs.Level.{Fitting}
 use Rattle.walk_laws.specs.Cleared.{nat_abs_signed}
 use Rattle.walk_laws.specs.Decoded.{unread_most}
-use Rattle.walk_laws.specs.Softer.{moved_up_lem}
+use Rattle.walk_laws.specs.Softer.{moved_up_is}
 
 -- the most that a number is moved up by
 abbrev pub most_half : ℕ
@@ -31,8 +31,8 @@ unfolding half_of
 half_most zero h = omega arith
 half_most (suc u) h = let l : u ≤ most_planes - 1 = omega arith in pow_mono l
 
-pub moved_within : (h : ℕ) (x : ℤ) → h ≤ most_half → Within number_limit x → Within (number_limit + most_half) (moved_up_lem h x)
-unfolding moved_up_lem
+pub moved_within : (h : ℕ) (x : ℤ) → h ≤ most_half → Within number_limit x → Within (number_limit + most_half) (moved_up h x)
+unfolding moved_up
 moved_within h x l w = go (eqb (nat_abs x) 0)
   where
     go : (b : Bool) → Within (number_limit + most_half) (pick b x (signed (negative x) (nat_abs x + h)))
@@ -49,8 +49,8 @@ unfolding half_of
 half_some zero t h e = absurd (h refl)
 half_some (suc u) t h e = let q : suc u - 1 ≡ u = omega arith in rw q at e
 
-pub moved_grown : (h : ℕ) (x : ℤ) → (x ≡ pos 0 → ⊥) → signed (negative x) (nat_abs x + h) ≡ moved_up_lem h x
-moved_grown h x k = sym (moved_up_lem h x (some x k))
+pub moved_grown : (h : ℕ) (x : ℤ) → (x ≡ pos 0 → ⊥) → signed (negative x) (nat_abs x + h) ≡ moved_up h x
+moved_grown h x k = sym (moved_up_is h x (some x k))
   where
     some : (x : ℤ) → (x ≡ pos 0 → ⊥) → 0 < nat_abs x
     some (pos zero) k = absurd (k refl)

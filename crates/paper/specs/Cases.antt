@@ -8,7 +8,7 @@ use Rattle.paper.specs.Line.{high_of, low_of, high_at, low_at, line_forward, odd
 use Rattle.paper.specs.Places.{interleaved, column_of, row_of, z_of, raster_of}
 use Rattle.paper.specs.Square.{place_of, line_of, spot_of, line, along, level_forward, level_back, on_first, levels_forward, levels_back, lowered, raised, grey, pictured, numbers_of, greys_of, low_band, low_greys_of, thumbnail_of}
 use Rattle.paper.specs.Walk.{bit_of, reaches, largest, bits_needed, plane_count, test_set, refined, begun, walk_number, ◌next◌, walk_numbers, walk_set, walk_rest, walk_plane, walk_planes, code_of, decode_of, unread_at}
-use Rattle.paper.specs.Softer.{half_of, moved_up_lem, softened, softer_of}
+use Rattle.paper.specs.Softer.{half_of, moved_up, softened, softer_of}
 use Rattle.paper.specs.Bits.{bits, byte_of, packed, laid, all_zero}
 use Rattle.paper.specs.Block.{label_character, label_characters, is_label, same_bytes, Origin, edition_in, arm_in, origin_in, plain_sum, weighed_sum, start_of, payload_bytes, header, named, sealed, named_of, payload_of, checks_right, origin_right, fields_right, block_refusal}
 use Rattle.paper.specs.Record.{made_block, blocks_for, block_of, record_of, said, in_turn, turn_refusal, run_from, bits_kept, payload_kept}
@@ -189,5 +189,5 @@ pub record Checked : Type 0 where
   pub no_characters : in_each_place (0x2F ∷ 0x3A ∷ 0x40 ∷ 0x5B ∷ 0x60 ∷ 0x61 ∷ 0x7A ∷ 0x7B ∷ 0x20 ∷ 0x00 ∷ 0xFF ∷ []) ≡ replicate 88 false
 
 pub checked : Checked
-unfolding size_in levels_in halvings_in planes_in numbers_in most_bits made joined edition_in arm_in origin_in start_of named named_of origin_right made_block said lent_refusal first_refusal first_in_turn first_reading high_of low_of high_at low_at line_forward odd_of even_of even_at odd_at woven line_back interleaved column_of row_of z_of raster_of place_of line_of spot_of line along level_forward level_back on_first levels_forward levels_back lowered raised grey pictured numbers_of greys_of low_band low_greys_of thumbnail_of bit_of reaches largest bits_needed plane_count test_set refined begun walk_number ◌next◌ walk_numbers walk_set walk_rest walk_plane walk_planes code_of decode_of unread_at half_of moved_up_lem softened softer_of bits byte_of packed laid all_zero label_character label_characters is_label same_bytes plain_sum weighed_sum header sealed payload_of checks_right fields_right block_refusal block_of record_of in_turn turn_refusal run_from bits_kept payload_kept sizes_refusal forward_refusal forward_job coding_refusal written_of coding_job decoding_refusal decoding_job display_refusal display_job thumbnail_refusal thumbnail_job writing_refusal writing_job reading_refusal reading_job
+unfolding size_in levels_in halvings_in planes_in numbers_in most_bits made joined edition_in arm_in origin_in start_of named named_of origin_right made_block said lent_refusal first_refusal first_in_turn first_reading high_of low_of high_at low_at line_forward odd_of even_of even_at odd_at woven line_back interleaved column_of row_of z_of raster_of place_of line_of spot_of line along level_forward level_back on_first levels_forward levels_back lowered raised grey pictured numbers_of greys_of low_band low_greys_of thumbnail_of bit_of reaches largest bits_needed plane_count test_set refined begun walk_number ◌next◌ walk_numbers walk_set walk_rest walk_plane walk_planes code_of decode_of unread_at half_of moved_up softened softer_of bits byte_of packed laid all_zero label_character label_characters is_label same_bytes plain_sum weighed_sum header sealed payload_of checks_right fields_right block_refusal block_of record_of in_turn turn_refusal run_from bits_kept payload_kept sizes_refusal forward_refusal forward_job coding_refusal written_of coding_job decoding_refusal decoding_job display_refusal display_job thumbnail_refusal thumbnail_job writing_refusal writing_job reading_refusal reading_job
 checked = record { p1 = refl; p2 = refl; p3 = refl; p4 = refl; p5 = refl; p6 = refl; p7 = refl; p8 = refl; p9 = refl; p9_bits = refl; p9_planes = refl; p10 = refl; places = refl; places_closed = refl; p11 = refl; softer = refl; softer_last = refl; softer_none = refl; softer_beyond = refl; display_cut = refl; display_order = refl; display_stored = refl; low_band_case = refl; thumbnail_early = refl; thumbnail_smallest = refl; thumbnail_beyond = refl; thumbnail_unhalved = refl; thumbnail_deep = refl; thumbnail_levels = refl; block = refl; label = refl; zeros_kept = refl; block_l6_case = refl; label_l6_case = refl; block_arm_2 = refl; label_arm_2 = refl; first_refuses = refl; first_reads_none = refl; first_reads = refl; first_limits = refl; first_ends = refl; editions = refl; arms = refl; mounts = refl; editions_checked = refl; arms_checked = refl; edition_before_room = refl; room_before_arm = refl; label_before_arm = refl; room_of_edition = refl; counts = refl; counts_2 = refl; block_counts = refl; agree = refl; disagree = refl; checks = refl; every_character = refl; characters = refl; no_characters = refl }

@@ -11,12 +11,12 @@ half_of zero = 0
 half_of (suc u) = 2 ^ u
 
 -- a number that isn't zero moved up in magnitude by h, its sign kept
-unfoldable pub moved_up_lem : ℕ → ℤ → ℤ
-moved_up_lem h x = pick (eqb (nat_abs x) 0) x (signed (negative x) (nat_abs x + h))
+unfoldable pub moved_up : ℕ → ℤ → ℤ
+moved_up h x = pick (eqb (nat_abs x) 0) x (signed (negative x) (nat_abs x + h))
 
 -- the numbers shown where p planes are unfinished and the cut fell at `place`
 unfoldable pub softened : ℕ → ℕ → List ℤ → List ℤ
-softened p place numbers = made (length numbers) (λ i. moved_up_lem (half_of (unread_at p place i)) (at numbers i))
+softened p place numbers = made (length numbers) (λ i. moved_up (half_of (unread_at p place i)) (at numbers i))
 
 -- the greys that they give back
 unfoldable pub softer_of : ℕ → ℕ → ℕ → ℕ → List ℤ → List ℤ

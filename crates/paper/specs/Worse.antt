@@ -7,7 +7,7 @@ use Rattle.paper.specs.Line.{high_of, low_of, odd_of, even_of, high_at, low_at, 
 use Rattle.paper.specs.Places.{interleaved, column_of, row_of, z_of, raster_of}
 use Rattle.paper.specs.Square.{place_of, line_of, spot_of, line, along, level_forward, level_back, on_first, levels_forward, levels_back, lowered, raised, grey, pictured, numbers_of, greys_of}
 use Rattle.paper.specs.Walk.{bit_of, reaches, largest, bits_needed, plane_count, test_set, refined, begun, walk_number, ◌next◌, walk_numbers, walk_set, walk_rest, walk_plane, walk_planes, code_of, decode_of, unread_at}
-use Rattle.paper.specs.Softer.{half_of, moved_up_lem, softened}
+use Rattle.paper.specs.Softer.{half_of, moved_up, softened}
 
 -- what the first b bits of a picture of side 8, two levels, show at a raster place
 abbrev shown : List ℕ → ℕ → ℕ → ℕ
@@ -42,5 +42,5 @@ unfoldable pub ShownOnlyImprove : Type 0
 ShownOnlyImprove = (numbers : List ℤ) (i b c : ℕ) → b ≤ c → shown_off numbers i c ≤ shown_off numbers i b
 
 pub shown_may_worsen : ShownOnlyImprove → ⊥
-unfolding ShownOnlyImprove made bit_of reaches largest bits_needed plane_count test_set refined begun walk_number ◌next◌ walk_numbers walk_set walk_rest walk_plane walk_planes code_of decode_of unread_at half_of moved_up_lem softened
+unfolding ShownOnlyImprove made bit_of reaches largest bits_needed plane_count test_set refined begun walk_number ◌next◌ walk_numbers walk_set walk_rest walk_plane walk_planes code_of decode_of unread_at half_of moved_up softened
 shown_may_worsen claim = let worse : 1 ≤ 0 = claim (pos 6 ∷ replicate 63 (pos 0)) 0 3 8 (omega arith) in omega arith

@@ -8,7 +8,7 @@ use Rattle.std.proofs.Math.ListN.{get_or-eq_default}
 use Rattle.paper.specs.Sizes.{numbers_in}
 use Rattle.paper.specs.Lists.{at, pick}
 use Rattle.paper.specs.Walk.{negative, signed, largest, plane_count, code_of, unread_at}
-use Rattle.paper.specs.Softer.{half_of, moved_up_lem, softened}
+use Rattle.paper.specs.Softer.{half_of, moved_up, softened}
 use Rattle.list_laws.specs.Made.{length_made, get_d_made, made_is}
 use Rattle.walk_laws.specs.Cleared.{high, cleared, high_le, lt_high, nat_abs_cleared, nat_abs_signed, negative_signed, signed_zero, signed_self}
 use Rattle.walk_laws.specs.Decoded.{gap, unread_most, count_fits, decoded_first, unread_first, decoded_at}
@@ -23,15 +23,15 @@ pub record Softer (u : ℕ) (x z y : ℤ) : Type 0 where
   pub within : nat_abs (x -ℤ y) ≤ 2 ^ u - 1
 
 -- ---- one number
-pub moved_zero : (h : ℕ) (x : ℤ) → x ≡ pos 0 → moved_up_lem h x ≡ x
-unfolding moved_up_lem
+pub moved_zero : (h : ℕ) (x : ℤ) → x ≡ pos 0 → moved_up h x ≡ x
+unfolding moved_up
 moved_zero h x e = rw e
 
-pub moved_up_is : (h : ℕ) (x : ℤ) → 0 < nat_abs x → moved_up_lem h x ≡ signed (negative x) (nat_abs x + h)
-unfolding moved_up_lem
+pub moved_up_is : (h : ℕ) (x : ℤ) → 0 < nat_abs x → moved_up h x ≡ signed (negative x) (nat_abs x + h)
+unfolding moved_up
 moved_up_is h x k = rw (ne_eqb (nat_abs x) 0 (λ e. omega arith))
 
-moved_signed : (h : ℕ) (s : Bool) (m : ℕ) → moved_up_lem h (signed s (suc m)) ≡ signed s (suc m + h)
+moved_signed : (h : ℕ) (s : Bool) (m : ℕ) → moved_up h (signed s (suc m)) ≡ signed s (suc m + h)
 moved_signed h s m = moved_up_is h (signed s (suc m)) (omega (arith, nat_abs_signed s (suc m))) ∙ rw (negative_signed s (suc m) (omega arith), nat_abs_signed s (suc m))
 
 -- a magnitude from c on and below c + 2 ^ u, shown as c and half of that
@@ -50,7 +50,7 @@ unfolding half_of
 half_exact zero m c e a b = omega arith
 half_exact (suc u) m c e a b = absurd (omega arith)
 
-softer_signed : (u : ℕ) (s : Bool) (m c : ℕ) → c ≤ m → m < c + 2 ^ u → Softer u (signed s m) (signed s c) (moved_up_lem (half_of u) (signed s c))
+softer_signed : (u : ℕ) (s : Bool) (m c : ℕ) → c ≤ m → m < c + 2 ^ u → Softer u (signed s m) (signed s c) (moved_up (half_of u) (signed s c))
 softer_signed u s m zero a b = rw (moved_zero (half_of u) (signed s 0) (signed_zero s)) (record {
   exact = λ e. ap (signed s) (let z : 0 ≡ m = omega (arith, ap (λ u. 2 ^ u) e) in z);
   near = λ h k. absurd (k (signed_zero s));
@@ -66,7 +66,7 @@ softer_signed u s m (suc c) a b = rw (moved_signed (half_of u) s c) (record {
   within = rw (gap s m (suc c + half_of u)) (half_within u m (suc c) a b);
 })
 
-pub softer_cleared : (u : ℕ) (x : ℤ) → Softer u x (cleared u x) (moved_up_lem (half_of u) (cleared u x))
+pub softer_cleared : (u : ℕ) (x : ℤ) → Softer u x (cleared u x) (moved_up (half_of u) (cleared u x))
 unfolding cleared
 softer_cleared u x =
     rw (signed_self x) at (softer_signed u (negative x) (nat_abs x) (high u (nat_abs x)) (high_le u (nat_abs x)) (lt_high u (nat_abs x)))
@@ -88,8 +88,8 @@ unfolding half_of
 half_below zero = omega arith
 half_below (suc u) = omega (arith, two-pow-succ u, pow_pos u)
 
-pub softer_below : (u n : ℕ) (x : ℤ) → u ≤ n → nat_abs x < 2 ^ n → nat_abs (moved_up_lem (half_of u) (cleared u x)) < 2 ^ n
-unfolding moved_up_lem
+pub softer_below : (u n : ℕ) (x : ℤ) → u ≤ n → nat_abs x < 2 ^ n → nat_abs (moved_up (half_of u) (cleared u x)) < 2 ^ n
+unfolding moved_up
 softer_below u n x h l = go (eqb (nat_abs (cleared u x)) 0)
   where
     z : ℤ
@@ -104,19 +104,19 @@ pub length_softened : (p place : ℕ) (xs : List ℤ) → length (softened p pla
 unfolding softened
 length_softened p place xs = length_made (length xs) _
 
-pub at_softened : (p place : ℕ) (xs : List ℤ) (i : ℕ) → at (softened p place xs) i ≡ moved_up_lem (half_of (unread_at p place i)) (at xs i)
-unfolding softened moved_up_lem
+pub at_softened : (p place : ℕ) (xs : List ℤ) (i : ℕ) → at (softened p place xs) i ≡ moved_up (half_of (unread_at p place i)) (at xs i)
+unfolding softened moved_up
 at_softened p place xs i = go (dec_lt i (length xs))
   where
-    go : Dec (i < length xs) → at (softened p place xs) i ≡ moved_up_lem (half_of (unread_at p place i)) (at xs i)
+    go : Dec (i < length xs) → at (softened p place xs) i ≡ moved_up (half_of (unread_at p place i)) (at xs i)
     go (yes h) = get_d_made (length xs) _ i (pos 0) h
     go (no h) =
         get_or-eq_default (softened p place xs) (pos 0) {n = i} (omega (arith, length_softened p place xs))
         ∙ rw (get_or-eq_default xs (pos 0) {n = i} (omega arith))
 
 -- where no plane is unfinished nothing is moved
-moved_none : (x : ℤ) → moved_up_lem 0 x ≡ x
-unfolding moved_up_lem
+moved_none : (x : ℤ) → moved_up 0 x ≡ x
+unfolding moved_up
 moved_none x = go (eqb (nat_abs x) 0)
   where
     go : (b : Bool) → pick b x (signed (negative x) (nat_abs x + 0)) ≡ x
@@ -125,7 +125,7 @@ moved_none x = go (eqb (nat_abs x) 0)
 
 pub softened_none : (place : ℕ) (xs : List ℤ) → softened 0 place xs ≡ xs
 unfolding softened half_of
-softened_none place xs = sym (made_is (pos 0) (length xs) _ xs refl (λ i h. let u : unread_at 0 place i ≡ 0 = omega (arith, unread_most 0 place i) in sym (ap (λ u. moved_up_lem (half_of u) (at xs i)) u ∙ moved_none (at xs i))))
+softened_none place xs = sym (made_is (pos 0) (length xs) _ xs refl (λ i h. let u : unread_at 0 place i ≡ 0 = omega (arith, unread_most 0 place i) in sym (ap (λ u. moved_up (half_of u) (at xs i)) u ∙ moved_none (at xs i))))
 
 at_most : (xs : List ℤ) (i : ℕ) → nat_abs (at xs i) ≤ largest xs
 unfolding largest

@@ -9,7 +9,7 @@ use mir.Val.{to_z, of_z}
 use mir.Facts.{to_z-of_z}
 use Rattle.paper.specs.Lists.{at}
 use Rattle.paper.specs.Walk.{unread_at}
-use Rattle.paper.specs.Softer.{half_of, moved_up_lem, softened}
+use Rattle.paper.specs.Softer.{half_of, moved_up, softened}
 use Rattle.list_laws.specs.Made.{Filled, filled_none, filled_more, filled_all}
 use Rattle.square_laws.specs.Numbers.{in_each}
 use Rattle.walk_laws.specs.Decoded.{unread_most}
@@ -19,7 +19,7 @@ use Rattle.display.proofs.soften.Tie as tie
 
 abbrev invariant-loop : tie.invariant-loop
 invariant-loop unfinished place numbers out₀ i₀ out i =
-    (i ≤ length numbers) × (length out ≡ length numbers) × Filled (pos 0) (λ i. moved_up_lem (half_of (unread_at unfinished place i)) (at numbers i)) i out
+    (i ≤ length numbers) × (length out ≡ length numbers) × Filled (pos 0) (λ i. moved_up (half_of (unread_at unfinished place i)) (at numbers i)) i out
 
 abbrev decreases-loop : tie.decreases-loop
 decreases-loop unfinished place numbers out₀ i₀ out i = length numbers - i
@@ -71,7 +71,7 @@ loop-again c =
       omega arith,
       rw w.set-number.ensures (simp length-set t.loop.invariant.1),
       rw (w.set-number.ensures, z.z-place.ensures)
-          (filled_more (pos 0) (λ i. moved_up_lem (half_of (unread_at a.unfinished a.place i)) (at a.numbers.now i)) t.loop.i t.loop.out _ (omega arith) t.loop.invariant.2
+          (filled_more (pos 0) (λ i. moved_up (half_of (unread_at a.unfinished a.place i)) (at a.numbers.now i)) t.loop.i t.loop.out _ (omega arith) t.loop.invariant.2
           (to_z-of_z (record { sfits = m.moved_up.type-inv }) ∙ m.moved_up.ensures ∙ rw (as_stored n, m.before.unread-at.ensures))),
     )
 
