@@ -1,5 +1,5 @@
 -- Which numbers a run and the reading job can end with: whole blocks have 512 bytes, so that no block of a run is refused by 6.
-use Rattle.std.specs.Prelude.{◌≡◌, Bool, ◌&&◌, List, [], ◌∷◌, ◌⊎◌, eqb, drop}
+use Rattle.std.specs.Prelude.{◌≡◌, Bool, ◌&&◌, List, [], ◌∷◌, ◌⊎◌, drop}
 use Rattle.std.proofs.Math.Path.{refl, subst}
 use Rattle.std.proofs.Common.{sym, ◌∙◌, arith, length-take, length-drop}
 use Rattle.std.proofs.Math.Bool.{true, false}

@@ -12,7 +12,7 @@ use Rattle.bits.specs.Bits.{Sink}
 use Rattle.scan.proofs.Numbers.{numbers_take, numbers_drop}
 use Rattle.shapes.specs.Shapes.{IsSet}
 use Rattle.shapes.proofs.Cuts.{Cut, Quarters, part_set, last_quarter}
-use Rattle.shapes.proofs.Walks.{Three, part_ran, set_quarters}
+use Rattle.shapes.proofs.Walks.{Three, set_quarters}
 use Rattle.set_coder.specs.Coded.{Coded}
 use Rattle.set_coder.proofs.Run.{coder}
 

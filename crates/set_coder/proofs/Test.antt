@@ -3,14 +3,10 @@ use mathlib.Core.Path.{◌≡◌, refl, sym, ap, ◌∙◌}
 use mathlib.Core.Bool.{Bool, true, false}
 use mathlib.Core.List.{List, [], ◌∷◌}
 use Prim.Native.Nat.{ℕ, suc, ◌^◌}
-use native.Mathlib.Omega.{arith}
 use lib.IntN.{ℤ}
-use types.Run.{OneOf}
-use denote.Enum.Declared.{tag_of}
 use Rattle.paper.specs.Lists.{pick}
 use Rattle.paper.specs.Walk.{Coder, reaches, test_set}
 use Rattle.bits.specs.Bits.{Sink, put1, wrote}
-use Rattle.scan.specs.contracts.Seen as SeenM
 use Rattle.scan.specs.declared.Seen.{Seen}
 use Rattle.scan.specs.declared.Seen.TheVariants.{Known, New, Closed}
 use Rattle.scan.specs.Seen.{seen_of}
@@ -31,38 +27,20 @@ test_is p xs = go (reaches (2 ^ suc p) xs) (reaches (2 ^ p) xs)
     go false true = refl
     go false false = refl
 
-abbrev tag : Seen → ℕ
-tag s = tag_of SeenM.the_type s
-
 module _ (p limit : ℕ) (xs : List ℤ) (s : Seen) (is-s : s ≡ seen_of p xs) (s₀ : Sink) where
   test_coded : (o : Bool) (l : List Bool) {s₁ : Sink} → says s ≡ (o, l) → s₁ ≡ wrote limit l s₀ → Coded (test_set Coder p xs) limit s₀ o s₁
   test_coded o l e w =
       let c : test_set Coder p xs ≡ (o, l) = test_is p xs ∙ ap says (sym is-s) ∙ e in
       record { held = ap (λ c. c.0) c; put = w ∙ ap (λ c. wrote limit c.1 s₀) (sym c) }
 
-  pub test_known : OneOf (0 ∷ []) (tag s) → Coded (test_set Coder p xs) limit s₀ true s₀
+  pub test_known : s ≡ Known → Coded (test_set Coder p xs) limit s₀ true s₀
   unfolding wrote
-  test_known k = test_coded true [] (go s k) refl
-    where
-      go : (s : Seen) → OneOf (0 ∷ []) (tag s) → says s ≡ (true, [])
-      go Known k = refl
-      go New k = absurd (let z : ◌≡◌ {A = ℕ} 1 0 = k in omega arith)
-      go Closed k = absurd (let z : ◌≡◌ {A = ℕ} 2 0 = k in omega arith)
+  test_known k = test_coded true [] (ap says k) refl
 
-  pub test_new : (s₁ : Sink) → OneOf (1 ∷ []) (tag s) → s₁ ≡ put1 limit true s₀ → Coded (test_set Coder p xs) limit s₀ true s₁
+  pub test_new : (s₁ : Sink) → s ≡ New → s₁ ≡ put1 limit true s₀ → Coded (test_set Coder p xs) limit s₀ true s₁
   unfolding wrote
-  test_new s₁ k = test_coded true (true ∷ []) (go s k)
-    where
-      go : (s : Seen) → OneOf (1 ∷ []) (tag s) → says s ≡ (true, true ∷ [])
-      go Known k = absurd (let z : ◌≡◌ {A = ℕ} 0 1 = k in omega arith)
-      go New k = refl
-      go Closed k = absurd (let z : ◌≡◌ {A = ℕ} 2 1 = k in omega arith)
+  test_new s₁ k = test_coded true (true ∷ []) (ap says k)
 
-  pub test_closed : (s₁ : Sink) → OneOf (2 ∷ []) (tag s) → s₁ ≡ put1 limit false s₀ → Coded (test_set Coder p xs) limit s₀ false s₁
+  pub test_closed : (s₁ : Sink) → s ≡ Closed → s₁ ≡ put1 limit false s₀ → Coded (test_set Coder p xs) limit s₀ false s₁
   unfolding wrote
-  test_closed s₁ k = test_coded false (false ∷ []) (go s k)
-    where
-      go : (s : Seen) → OneOf (2 ∷ []) (tag s) → says s ≡ (false, false ∷ [])
-      go Known k = absurd (let z : ◌≡◌ {A = ℕ} 0 2 = k in omega arith)
-      go New k = absurd (let z : ◌≡◌ {A = ℕ} 1 2 = k in omega arith)
-      go Closed k = refl
+  test_closed s₁ k = test_coded false (false ∷ []) (ap says k)
