@@ -3,7 +3,7 @@
 use mathlib.Core.Path.{◌≡◌, refl, sym, ap, ◌∙◌}
 use mathlib.Core.Bool.{true, false, not}
 use mathlib.Core.List.{List, [], ◌∷◌, ◌++◌, append_assoc}
-use Prim.Native.Nat.{ℕ, zero, suc, ◌+◌, ◌/◌, ◌^◌, ◌<◌, ◌≤◌}
+use Prim.Native.Nat.{ℕ, zero, suc, ◌+◌, ◌^◌, ◌<◌, ◌≤◌}
 use native.Mathlib.Omega.{arith}
 use lib.Dec.{leb, eqb}
 use lib.ListN.{length, drop, get_or, length-append}
@@ -11,10 +11,9 @@ use lib.Seq.{drop-append-add, get_or-append-add}
 use borrow.Author.Tests.{ne_eqb, not-true}
 use Rattle.paper.specs.Lists.{pick}
 use Rattle.sizes.proofs.Ranges.{both_first, both_second}
-use Rattle.pgm.specs.declared.Number.{Number}
 use Rattle.pgm.specs.declared.Header.{Header}
 use Rattle.pgm.specs.Ascii.{ascii, decimal}
-use Rattle.pgm.specs.Header.{is_space, is_line_end, is_digit, is_passed, is_inside, past_space, past_line, with_digit, number_from, field_at, raster_at, past_magic, header_of}
+use Rattle.pgm.specs.Header.{is_space, is_line_end, is_digit, is_passed, is_inside, past_space, with_digit, number_from, field_at, raster_at, past_magic, header_of}
 use Rattle.words.specs.Line.{on, ◌puts◌, figure}
 use Rattle.words.proofs.Laws.{puts_all, one_text, lengths, one_text_length, puts_all_lem}
 use Rattle.words.proofs.Decimal.{decimal_length}
