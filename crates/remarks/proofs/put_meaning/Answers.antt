@@ -60,4 +60,4 @@ unfolding meanings
 returns-in-9 c = rw c.in-9.is c.put-in-9.ensures
 
 pub returns-in_default : goal.returns-in_default
-returns-in_default c = let r = c.in_default-own.rest in rw (unmeant _ r.0.0.0.0.0.0.0.1 r.0.0.0.0.0.0.1 r.0.0.0.0.0.1 r.0.0.0.0.1 r.0.0.0.1 r.0.0.1 r.0.1 r.1) (put_nothing _)
+returns-in_default c = let r = c.in_default.in_default-own.rest in rw (unmeant _ r.0.0.0.0.0.0.0.1 r.0.0.0.0.0.0.1 r.0.0.0.0.0.1 r.0.0.0.0.1 r.0.0.0.1 r.0.0.1 r.0.1 r.1) (put_nothing _)
