@@ -49,7 +49,7 @@ loop-i-preserved c =
       to_z-of_z {w = w32} (record { sfits = r.type_inv }) ∙ r.ensures ∙ ap (even_at y h) a.ensures,
       paired_more (λ i. 2 * i) (λ i. 2 * i + 1) (even_at y h) (odd_at y h) i c.loop-i.out _ _ (free_turns h i _ (omega arith) (omega arith)) c.loop-i.invariant.3
           (c.loop-i.invariant.2 ∙ ap (even_at y h) q)
-          (to_z-of_z {w = w32} (record { sfits = c.odd_of.type_inv }) ∙ c.odd_of.ensures ∙ simp (c.loop-i.invariant.2, q, r.ensures, a.ensures, read (c.requires.each (h + i)) tt, read (even_at_within y h i c.requires.each) tt, read (even_at_within y h (min (i + 1) (h - 1)) c.requires.each) tt)),
+          (to_z-of_z {w = w32} (record { sfits = c.odd_of.type_inv }) ∙ c.odd_of.ensures ∙ simp (c.loop-i.invariant.2, q, r.ensures, a.ensures, read (c.requires.each (h + i)) tt, read (even_at_within y h (min (i + 1) (h - 1)) c.requires.each) tt)),
     )
 
 pub shape_of-out : goal.shape_of-out

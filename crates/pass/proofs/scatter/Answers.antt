@@ -6,6 +6,7 @@ use mir.Facts.{to_z-of_z}
 use mir.Syntax.{w32}
 use Rattle.square_laws.specs.Grid.{place_below}
 use Rattle.pass.proofs.Lines.{put_none, put_more}
+use borrow.Author.Rules.{rules}
 use Rattle.pass.proofs.scatter.Goals as goal
 
 pub loop-i-init : goal.loop-i-init
@@ -20,7 +21,7 @@ pub loop-i-preserved : goal.loop-i-preserved
 loop-i-preserved c =
     let a = c.args in (
       omega arith,
-      rw (c.set_number.ensures, c.place.ensures) (put_more a.j a.down a.l c.loop-i.i a.v.now a.xs.now c.loop-i.xs _ c.requires.l_bound (omega arith) c.requires.xs_len c.loop-i.invariant.1 (to_z-of_z {w = w32} (record { sfits = c.set_number-arg-in-loop-i-1.given }))),
+      rw (c.set_number.ensures, c.place.ensures) (put_more a.j a.down a.l c.loop-i.i a.v.now a.xs.now c.loop-i.xs _ c.requires.l_bound (omega arith) c.requires.xs_len c.loop-i.invariant.1 (to_z-of_z {w = w32} (search rules))),
     )
 
 pub returns : goal.returns
