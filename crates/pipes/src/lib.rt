@@ -1,9 +1,11 @@
-// Whole reads and writes that go straight to the bytes lent: they have no buffer of their own, so that a program's
-// memory is what its own buffers say.
 #![tactic(auto)]
 
-ghost use Rattle.std.specs.Prelude.{◌≡◌, ◌+◌, ◌≤◌, length};
-ghost use Rattle.io.specs.Counts.{IsPrefixLen};
+// Whole reads and writes that go straight to the bytes lent: they have no buffer of their own, so that a program's
+// memory is what its own buffers say.
+ghost use Rattle.std.specs.Prelude.{◌≡◌, ◌<◌, ◌≤◌, ℕ, length, take, IsTrue, false};
+ghost use Rattle.std.specs.Io.KnownBytes.{Appends, Consumes, IsAtEnd};
+
+use std::io::{Read, Write};
 
 // How many bytes came, and whether a read failed before the end.
 #[derive(Drop)]
@@ -13,24 +15,34 @@ pub struct Filled {
 }
 
 // One read.
-fn read_some(fd: i32, part: &mut [u8]) -> Filled
-    ensures { result.count ≤ length part.old }
+fn read_some<R: Read>(from: &mut R, part: &mut [u8]) -> Filled
+    ensures within { result.count ≤ length part.new }
+    ensures front { result.count ≡ length (take result.count part.new) }
+    ensures bytes { Consumes (R.remaining from.old) (R.remaining from.new) (take result.count part.new) }
+    ensures end { result.failed ≡ false → result.count ≡ 0 → 0 < length part.new → IsAtEnd (R.remaining from.new) }
 {
-    let got = libc::read(fd, part);
-    let count = io::count(got, part);
-    Filled {
-        count,
-        failed: got < 0,
+    match from.read(part) {
+        Ok(count) => Filled {
+            count,
+            failed: false,
+        },
+        Err(_) => Filled {
+            count: 0,
+            failed: true,
+        },
     }
 }
 
 // Reads until the room is full, the input ends or a read fails.
-pub fn read_all(fd: i32, room: &mut [u8]) -> Filled
-    ensures { IsPrefixLen result.count room.new }
+pub fn read_all<R: Read>(from: &mut R, room: &mut [u8]) -> Filled
+    ensures within { result.count ≤ length room.new }
+    ensures front { result.count ≡ length (take result.count room.new) }
+    ensures bytes { Consumes (R.remaining from.old) (R.remaining from.new) (take result.count room.new) }
+    ensures end { result.failed ≡ false → result.count < length room.new → IsAtEnd (R.remaining from.new) }
 {
     let mut done = 0;
     while done < room.len() {
-        let part = read_some(fd, &mut room[done..]);
+        let part = read_some(from, &mut room[done..]);
         if part.count == 0 {
             return Filled {
                 count: done,
@@ -46,17 +58,24 @@ pub fn read_all(fd: i32, room: &mut [u8]) -> Filled
 }
 
 // One write.
-fn write_some(fd: i32, part: &[u8]) -> usize
-    ensures { result ≤ length part.now }
+fn write_some<W: Write>(to: &mut W, part: &[u8]) -> usize
+    ensures bound { result ≤ length part.now }
+    ensures bytes { Appends (W.contents to.old) (W.contents to.new) (take result part.now) }
 {
-    io::count(libc::write(fd, part), part)
+    match to.write(part) {
+        Ok(count) => count,
+        Err(_) => 0,
+    }
 }
 
-// Writes all of the bytes; false if a write fails.
-pub fn write_all(fd: i32, bytes: &[u8]) -> bool {
+// Writes all of the bytes; false if a write fails, and then some of them may have been written, from the first on.
+pub fn write_all<W: Write>(to: &mut W, bytes: &[u8]) -> bool
+    ensures all { IsTrue result → Appends (W.contents to.old) (W.contents to.new) bytes.now }
+    ensures front { (n : ℕ) × (n ≤ length bytes.now) × Appends (W.contents to.old) (W.contents to.new) (take n bytes.now) }
+{
     let mut done = 0;
     while done < bytes.len() {
-        let count = write_some(fd, &bytes[done..]);
+        let count = write_some(to, &bytes[done..]);
         if count == 0 {
             return false;
         }
@@ -66,9 +85,12 @@ pub fn write_all(fd: i32, bytes: &[u8]) -> bool {
 }
 
 // Writes the first `count` bytes; false if there are fewer, or a write fails.
-pub fn write_front(fd: i32, bytes: &[u8], count: usize) -> bool {
+pub fn write_front<W: Write>(to: &mut W, bytes: &[u8], count: usize) -> bool
+    ensures all { IsTrue result → Appends (W.contents to.old) (W.contents to.new) (take count bytes.now) }
+    ensures enough { IsTrue result → count ≤ length bytes.now }
+{
     if bytes.len() < count {
         return false;
     }
-    write_all(fd, &bytes[..count])
+    write_all(to, &bytes[..count])
 }
