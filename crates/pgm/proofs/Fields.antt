@@ -1,8 +1,8 @@
 -- The header's fields, its raster and the header itself, by what was found on the way there.
-use mathlib.Core.Path.{◌≡◌, refl, sym, ap, ◌∙◌}
+use mathlib.Core.Path.{◌≡◌, refl}
 use mathlib.Core.Bool.{Bool, true, false, ◌&&◌}
 use mathlib.Core.List.{List}
-use Prim.Native.Nat.{ℕ, suc, ◌+◌, ◌<◌, ◌≤◌}
+use Prim.Native.Nat.{ℕ, ◌+◌, ◌<◌, ◌≤◌}
 use native.Mathlib.Numerals.{add-one}
 use native.Mathlib.Omega.{arith}
 use lib.Dec.{eqb}
@@ -10,8 +10,7 @@ use lib.ListN.{length, drop, get_or, get_or-eq_default}
 use borrow.Author.Tests.{eq-eqb, ne_eqb}
 use Rattle.paper.specs.Lists.{pick}
 use Rattle.pgm.specs.declared.Number.{Number}
-use Rattle.pgm.specs.declared.Header.{Header}
-use Rattle.pgm.specs.Header.{is_space, is_hash, past_space, past_line, number_from, missing, field_at, raster_at, past_magic, no_header, header_of}
+use Rattle.pgm.specs.Header.{is_space, past_space, past_line, number_from, missing, field_at, raster_at, past_magic, no_header, header_of}
 
 -- ---- a field
 pub no_place : (s : List ℕ) (at : ℕ) → at ≡ 0 → missing ≡ field_at s at

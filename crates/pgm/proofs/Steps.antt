@@ -2,15 +2,13 @@
 use mathlib.Core.Path.{◌≡◌, refl, sym, ap, ◌∙◌}
 use mathlib.Core.Bool.{Bool, true, false}
 use mathlib.Core.List.{List, [], ◌∷◌}
-use Prim.Native.Nat.{ℕ, suc, ◌+◌, ◌*◌, ◌-◌, ◌<◌, ◌≤◌, min}
+use Prim.Native.Nat.{ℕ, suc, ◌+◌, ◌<◌, ◌≤◌}
 use native.Mathlib.Numerals.{add-one}
 use native.Mathlib.Omega.{arith}
 use lib.Dec.{leb}
 use lib.ListN.{length, drop, get_or, drop_of_length-le}
 use lib.Seq.{drop-cons}
-use borrow.Author.Tests.{leb-true, lt-leb, le-leb}
-use Rattle.paper.specs.Lists.{pick}
-use Rattle.pgm.specs.declared.Number.{Number}
+use borrow.Author.Tests.{leb-true}
 use Rattle.pgm.specs.Header.{is_line_end, is_digit, is_passed, is_inside, past_space, past_line, most_number, with_digit, number_from}
 
 -- for a loop of any kind: what it does with the byte at i

@@ -1,6 +1,6 @@
 -- The header of a binary PGM (P5) as netpbm reads it, a definition to each of the format's sentences.
 -- A place counts bytes from the front of the file; no sentence ends at place 0, so there 0 says that something is missing.
-use Rattle.std.specs.Prelude.{Bool, true, false, not, ◌&&◌, ◌||◌, List, [], ◌∷◌, ℕ, zero, suc, ◌+◌, ◌*◌, ◌-◌, min, leb, eqb, length, drop, get_or}
+use Rattle.std.specs.Prelude.{Bool, true, false, not, ◌&&◌, ◌||◌, List, [], ◌∷◌, ℕ, suc, ◌+◌, ◌*◌, ◌-◌, min, leb, eqb, length, drop, get_or}
 use Rattle.paper.specs.Lists.{pick}
 use Rattle.pgm.specs.declared.Number.{Number}
 use Rattle.pgm.specs.declared.Header.{Header}

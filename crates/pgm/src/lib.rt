@@ -1,3 +1,5 @@
+#![tactic(auto)]
+
 // The header of a binary PGM (P5), read and written.
 #![tactic(auto)]
 
