@@ -1,54 +1,52 @@
--- A number's fewest decimal digits are the definition's.
-use mathlib.Core.Path.{◌≡◌, refl, sym, ap, ◌∙◌}
+-- A number in decimal, its last digit written first.
+use mathlib.Core.Path.{◌≡◌, sym, ap, subst, ◌∙◌}
 use mathlib.Core.Bool.{Bool, true, false}
-use mathlib.Core.List.{List, [], ◌∷◌, ◌++◌}
-use Prim.Native.Nat.{ℕ, zero, suc, ◌+◌, ◌*◌, ◌-◌, ◌/◌, ◌%◌, ◌^◌, ◌<◌, ◌≤◌}
+use mathlib.Core.List.{List, [], ◌∷◌, ◌++◌, append_assoc}
+use Prim.Native.Nat.{ℕ, zero, suc, ◌+◌, ◌-◌, ◌/◌, ◌%◌, ◌^◌, ◌<◌, ◌≤◌}
+use native.Mathlib.Numerals.{add-one}
+use native.Mathlib.Nat.{pow-suc}
 use native.Mathlib.Omega.{arith}
-use native.Mathlib.Nat.{pow-suc, pow-le-pow_right, mod-eq_of_lt}
-use lib.Dec.{leb, ltb}
-use lib.ListN.{length, length-append}
+use lib.Dec.{ltb}
+use lib.ListN.{length, length-append, drop, set}
+use Rattle.std.proofs.lemmas.List.{drop-set}
 use Rattle.paper.specs.Lists.{pick}
-use borrow.Author.Tests.{lt-ltb, le-ltb, leb-true, leb-false}
-use Rattle.io.specs.Digits.{hex_digit_ascii, last_digits as digits, IsDigitCount}
+use borrow.Author.Tests.{lt-ltb, le-ltb}
 use Rattle.pgm.specs.Ascii.{decimal}
 
-glyph_is : (d : ℕ) → d < 10 → hex_digit_ascii d ≡ 48 + d
-glyph_is d h = rw (lt-ltb d 10 h)
+-- a place in front of it is left for a number that has a digit more
+pub some_place : (first rest : ℕ) → 10 ≤ rest → rest < 10 ^ suc first → 0 < first
+some_place zero rest t h = omega (arith, pow-suc 10 0)
+some_place (suc first) rest t h = omega arith
 
--- one digit less: a tenth of the number, rounded down
-step : (k n : ℕ) → n < 10 ^ suc (suc k) → 10 ^ suc k ≤ n → (n / 10 < 10 ^ suc k) × (10 ^ k ≤ n / 10) × (10 ≤ n)
-step k n h l =
-    let a : 10 ^ 0 ≤ 10 ^ k = pow-le-pow_right {n = 10} (omega arith) {i = 0} {j = k} (omega arith) in
-    omega (arith, pow-suc 10 k, pow-suc 10 (suc k))
+-- without its last digit it fits what is left
+pub tenth_fits : (first rest : ℕ) → 0 < first → rest < 10 ^ suc first → rest / 10 < 10 ^ suc (first - 1)
+tenth_fits first rest s h =
+    let e : suc (first - 1) ≡ first = omega arith in
+    subst (λ k. rest / 10 < 10 ^ k) (sym e) (omega (arith, pow-suc 10 first))
 
-digits_are : (k most n : ℕ) → suc k ≤ most → n < 10 ^ suc k → (0 < k → 10 ^ k ≤ n) → decimal most n ≡ digits 10 (suc k) n
+last_of : (most n : ℕ) → 10 ≤ n → decimal (suc most) n ≡ decimal most (n / 10) ++ ((48 + n % 10) ∷ [])
 unfolding decimal
-digits_are k zero n m h l = absurd (omega arith)
-digits_are zero (suc most) n m h l =
-    let s : n < 10 = omega arith in
-    rw (lt-ltb n 10 s, mod-eq_of_lt s, lt-ltb n 10 s)
-digits_are (suc k) (suc most) n m h l =
-    let s = step k n h (l (omega arith)) in
-    rw (le-ltb n 10 s.2, digits_are k most (n / 10) (omega arith) s.0 (λ _. s.1), glyph_is (n % 10) (omega arith))
+last_of most n t = rw (le-ltb n 10 t)
 
--- a number of 64 bits has at most 20 digits
-few : (k n : ℕ) → n < 2 ^ 64 → IsDigitCount 10 1 n k → k ≤ 20
-few k n s f = go (leb k 20) refl
-  where
-    go : (b : Bool) → leb k 20 ≡ b → k ≤ 20
-    go true e = leb-true k 20 e
-    go false e =
-        let h : 20 < k = leb-false k 20 e in
-        let p : 10 ^ 20 ≤ 10 ^ (k - 1) = pow-le-pow_right {n = 10} (omega arith) {i = 20} {j = k - 1} (omega arith) in
-        let q : 10 ^ (k - 1) ≤ n = f.2 (omega arith) in
-        absurd (omega arith)
+only : (most n : ℕ) → n < 10 → decimal (suc most) n ≡ (48 + n) ∷ []
+unfolding decimal
+only most n t = rw (lt-ltb n 10 t)
 
-pub fewest_digits : (k n : ℕ) → n < 2 ^ 64 → IsDigitCount 10 1 n k → decimal 20 n ≡ digits 10 k n
-fewest_digits zero n s f = absurd (omega (arith, f.0))
-fewest_digits (suc k) n s f = digits_are k 20 n (few (suc k) n s f) f.1 (λ h. rw (e k) at (f.2 (omega arith)))
-  where
-    e : (k : ℕ) → suc k - 1 ≡ k
-    e k = omega arith
+-- what of n is yet to be written stands in front of what is: the digit at place `first` is written
+module _ (n first rest : ℕ) (digits : List ℕ) (there : first < length digits) (e : decimal 20 n ≡ decimal (suc first) rest ++ drop (suc first) digits) where
+  behind : (digit : ℕ) → drop first (set digits first digit) ≡ digit ∷ drop (suc first) digits
+  behind digit = drop-set digits first digit there ∙ ap (λ k. digit ∷ drop k digits) (add-one first)
+
+  -- the last one of more
+  pub next_digit : 0 < first → 10 ≤ rest → decimal 20 n ≡ decimal (suc (first - 1)) (rest / 10) ++ drop (suc (first - 1)) (set digits first (48 + rest % 10))
+  next_digit s t =
+      let f : first ≡ suc (first - 1) = omega arith in
+      subst (λ k. decimal 20 n ≡ decimal k (rest / 10) ++ drop k (set digits first (48 + rest % 10))) f
+      (e ∙ ap (λ l. l ++ drop (suc first) digits) (last_of first rest t) ∙ append_assoc (decimal first (rest / 10)) _ _ ∙ ap (λ l. decimal first (rest / 10) ++ l) (sym (behind (48 + rest % 10))))
+
+  -- the only one
+  pub first_digit : rest < 10 → drop first (set digits first (48 + rest)) ≡ decimal 20 n
+  first_digit t = behind (48 + rest) ∙ sym (e ∙ ap (λ l. l ++ drop (suc first) digits) (only first rest t))
 
 -- a number has no more digits than it may have
 pub decimal_length : (most n : ℕ) → length (decimal most n) ≤ most

@@ -1,13 +1,13 @@
--- A text put into a line, as the code has it: the line's tail is lent, and the text copied to its front.
+-- A text put into a line, as the code has it: the part of the line that it takes is lent, and the text copied there.
 use mathlib.Core.Path.{◌≡◌, refl, sym, ap, ◌∙◌}
 use mathlib.Core.Bool.{Bool, true, false}
-use mathlib.Core.List.{List, [], ◌∷◌, ◌++◌, append-nil, append_assoc}
-use Prim.Native.Nat.{ℕ, ◌+◌, ◌-◌, ◌<◌, ◌≤◌}
+use mathlib.Core.List.{List, [], ◌∷◌, ◌++◌, append_assoc}
+use Prim.Native.Nat.{ℕ, ◌+◌, ◌<◌, ◌≤◌}
 use native.Mathlib.Omega.{arith}
 use native.Mathlib.Nat.{add-zero}
 use lib.Dec.{leb}
-use lib.ListN.{length, take, drop, length-append, length-take, length-drop, drop_of_length-le, take-append-drop}
-use lib.Seq.{take_all, take-length, drop-drop, take-append_seam, drop-append-add}
+use lib.ListN.{length, take, drop, length-append, length-take, length-drop, take-append-drop}
+use lib.Seq.{drop-drop, take-append_seam, drop-append-add}
 use borrow.Author.Tests.{le-leb, lt-leb, leb-true}
 use Rattle.paper.specs.Lists.{pick}
 use Rattle.words.specs.Line.{Line, on, ◌puts◌}
@@ -17,13 +17,9 @@ module _ (text line : List ℕ) (at : ℕ) where
   unfolding ◌puts◌
   no_room h = rw (lt-leb (at + length text) (length line) h)
 
-  pub put_there : (tail : List ℕ) (r : ℕ) → at + length text ≤ length line → r ≡ length text
-      → tail ≡ take (length text) text ++ drop (length text) (take (length line - at) (drop at line))
-      → on line at puts text ≡ on (take at line ++ (tail ++ drop (length line - at) (drop at line))) (at + r)
+  pub put_there : at + length text ≤ length line → on line at puts text ≡ on (take at line ++ (text ++ drop (at + length text) line)) (at + length text)
   unfolding ◌puts◌
-  put_there tail r h e t =
-      let l : length (drop at line) ≤ length line - at = omega (arith, length-drop at line) in
-      rw (le-leb (at + length text) (length line) h, e, t, take-length text, take_all (length line - at) (drop at line) l, drop_of_length-le (drop at line) l, append-nil, drop-drop (length text) at line)
+  put_there h = rw (le-leb (at + length text) (length line) h)
 
 -- no text changes nothing
 pub put_nothing : (line : Line) → line puts [] ≡ line

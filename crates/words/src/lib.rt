@@ -1,3 +1,5 @@
+#![tactic(auto)]
+
 // A line of text, written into lent room piece by piece: texts, and numbers in decimal.
 #![tactic(auto)]
 
@@ -15,7 +17,9 @@ pub fn put(text: &[u8], line: &mut [u8], at: usize) -> usize
     if line.len() - at < text.len() {
         return at;
     }
-    at + bytes::copy(text, &mut line[at..])
+    let next = at + text.len();
+    line[at..next].copy_from_slice(text);
+    next
 }
 
 // A number in decimal.
@@ -23,8 +27,15 @@ pub fn put_number(number: u64, line: &mut [u8], at: usize) -> usize
     ensures { on line.old at puts figure number ≡ on line.new result }
 {
     let mut digits = [0u8; 20];
-    let count = io::decimal(number, &mut digits);
-    put(&digits[..count], line, at)
+    let mut first = 19;
+    let mut rest = number;
+    while 10 <= rest {
+        digits[first] = b'0' + (rest % 10) as u8;
+        first -= 1;
+        rest /= 10;
+    }
+    digits[first] = b'0' + rest as u8;
+    put(&digits[first..], line, at)
 }
 
 // A text with a number behind it.
