@@ -1,6 +1,6 @@
+// What a person gave a program on its command line: options, and numbers in digits.
 #![tactic(auto)]
 
-// What a person gave a program on its command line: options, and numbers in digits.
 ghost use Rattle.std.specs.Prelude.{◌≡◌, ◌≤◌, length, take};
 ghost use Rattle.arguments.specs.Words.{is_option};
 

@@ -1,10 +1,10 @@
-#![tactic(auto)]
-
 // decode [--softer | --thumbnail R] LABEL < record > picture.pgm
 //
 // Makes the picture of a record, whole or cut anywhere, side 8 to 64, if it has the label expected, or a softer one for the eye,
 // or a thumbnail of it, its side halved R times. Standard error says what it is worth, the verdict first; where something is
 // wrong, it says what, and nothing is written. docs/MEMORY.md has the sum of the buffers.
+#![tactic(auto)]
+
 ghost use Rattle.std.specs.Prelude.{◌≤◌};
 
 use desk::{MOST_GREYS, PAYLOAD_ROOM, RECORD_BYTES, Wanted};

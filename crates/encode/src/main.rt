@@ -1,5 +1,3 @@
-#![tactic(auto)]
-
 // encode [--arm ARM --mount MOUNT] LABEL LEVELS [BITS] < picture.pgm > record
 //
 // Makes a record of a square picture, side 8 to 64, of all its bits or of the first BITS: of edition 2 where arm and mount number

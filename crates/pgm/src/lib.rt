@@ -1,5 +1,3 @@
-#![tactic(auto)]
-
 // The header of a binary PGM (P5), read and written.
 #![tactic(auto)]
 

@@ -1,7 +1,7 @@
-#![tactic(auto)]
-
 // Whole reads and writes that go straight to the bytes lent: they have no buffer of their own, so that a program's
 // memory is what its own buffers say.
+#![tactic(auto)]
+
 ghost use Rattle.std.specs.Prelude.{◌≡◌, ◌<◌, ◌≤◌, ℕ, length, take, IsTrue, false};
 ghost use Rattle.std.specs.Io.KnownBytes.{Appends, Consumes, IsAtEnd};
 

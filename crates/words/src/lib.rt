@@ -1,5 +1,3 @@
-#![tactic(auto)]
-
 // A line of text, written into lent room piece by piece: texts, and numbers in decimal.
 #![tactic(auto)]
 
