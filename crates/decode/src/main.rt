@@ -5,27 +5,30 @@
 // wrong, it says what, and nothing is written. docs/MEMORY.md has the sum of the buffers.
 #![tactic(auto)]
 
+ghost use Rattle.std.specs.Prelude.{◌≤◌};
+
 use desk::{MOST_GREYS, PAYLOAD_ROOM, RECORD_BYTES, Wanted};
-use libc::{STDERR_FILENO, STDIN_FILENO, STDOUT_FILENO};
 use record::Kept;
 use square_pgm::MOST_HELD;
+use std::io::Write;
+use std::rt::HostRuntime;
 
 // The program's own text, also for a person who used it wrongly.
-fn write_help(fd: i32) {
+fn write_help<W: Write>(to: &mut W) {
     pipes::write_all(
-        fd,
+        to,
         b"usage: decode [--softer | --thumbnail R] LABEL < record > picture.pgm\n\nMakes the picture (PGM) of a record, whole or cut anywhere, side 8 to 64.\n  LABEL  the label expected: eight characters, 0-9 or A-Z; leading zeros count\n",
     );
     pipes::write_all(
-        fd,
+        to,
         b"  --softer       makes a cut one softer for the eye: half of what is unknown is\n                 added to the magnitude of each number but 0; the promise stays\n  --thumbnail R  makes a thumbnail of it, the side halved R times: from 1 to the\n                 levels of the record\n",
     );
     pipes::write_all(
-        fd,
+        to,
         b"Standard error says WHOLE, CUT or REFUSED, and what the picture is worth; a\nrefusal writes no picture. `label decode` does the same with an exit status.\n",
     );
     pipes::write_all(
-        fd,
+        to,
         b"What can't be promised: blocks of two shots under one label, with the same side,\nlevels and planes, splice unnoticed in edition 1, in edition 2 only if arm and\nmount number are the same too; no line here tells.\n",
     );
 }
@@ -61,6 +64,7 @@ fn halvings_line(label: &[u8], levels: u32, line: &mut [u8]) -> usize {
 
 // The header with its promise, and the greys of what is shown; false if they could not be written.
 fn write_picture(
+    rt: &HostRuntime,
     wanted: Wanted,
     kept: Kept,
     unfinished: u32,
@@ -82,13 +86,14 @@ fn write_picture(
     );
     let mut header = [0u8; 208];
     let count = square_pgm::write_header(k, &promise[..told], &mut header);
-    if !pipes::write_front(STDOUT_FILENO, &header, count) {
+    if !pipes::write_front(&mut rt.stdout(), &header, count) {
         return false;
     }
-    pipes::write_front(STDOUT_FILENO, picture, desk::area(k))
+    pipes::write_front(&mut rt.stdout(), picture, desk::area(k))
 }
 
 fn rebuild(
+    rt: &HostRuntime,
     wanted: Wanted,
     kept: Kept,
     payload: &[u8],
@@ -116,7 +121,7 @@ fn rebuild(
     if settled.refusal != 0 {
         return remarks::refused(settled.refusal, line);
     }
-    if !write_picture(wanted, kept, settled.unfinished, label, picture) {
+    if !write_picture(rt, wanted, kept, settled.unfinished, label, picture) {
         return words::put(b"REFUSED: standard output could not be written\n", line, 0);
     }
     verdict::report(
@@ -140,7 +145,14 @@ fn rebuild(
 
 // The blocks are of no use once they are read and what ended the run is said, and their memory is the picture's: every grey
 // of it is written, or none is shown.
-fn decode(wanted: Wanted, room: &mut [u8], count: usize, label: &[u8], line: &mut [u8]) -> usize {
+fn decode(
+    rt: &HostRuntime,
+    wanted: Wanted,
+    room: &mut [u8],
+    count: usize,
+    label: &[u8],
+    line: &mut [u8],
+) -> usize {
     if room.len() < count {
         return 0;
     }
@@ -160,81 +172,109 @@ fn decode(wanted: Wanted, room: &mut [u8], count: usize, label: &[u8], line: &mu
     }
     let mut ended = [0u8; 464];
     let told = faults::ended(kept.ended, &room[..count], label, kept.blocks, &mut ended);
-    rebuild(wanted, kept, &payload, label, &ended[..told], room, line)
+    rebuild(
+        rt,
+        wanted,
+        kept,
+        &payload,
+        label,
+        &ended[..told],
+        room,
+        line,
+    )
 }
 
-fn read_and_decode(wanted: Wanted, room: &mut [u8], label: &[u8], line: &mut [u8]) -> usize {
-    let filled = pipes::read_all(STDIN_FILENO, room);
+fn read_and_decode(
+    rt: &HostRuntime,
+    wanted: Wanted,
+    room: &mut [u8],
+    label: &[u8],
+    line: &mut [u8],
+) -> usize {
+    let filled = pipes::read_all(&mut rt.stdin(), room);
     if filled.failed {
         return words::put(b"REFUSED: standard input could not be read\n", line, 0);
     }
-    decode(wanted, room, filled.count, label, line)
+    decode(rt, wanted, room, filled.count, label, line)
 }
 
 // The picture, as it is or softer.
-fn show(wanted: Wanted, label: &[u8], line: &mut [u8]) -> usize {
+fn show(rt: &HostRuntime, wanted: Wanted, label: &[u8], line: &mut [u8]) -> usize {
     let mut room = [0u8; RECORD_BYTES];
-    read_and_decode(wanted, &mut room, label, line)
+    read_and_decode(rt, wanted, &mut room, label, line)
 }
 
 // A thumbnail, for which R is argument 2: it is read through the room that the blocks will have.
-fn show_thumbnail(label: &[u8], line: &mut [u8]) -> usize {
+fn show_thumbnail(rt: &HostRuntime, label: &[u8], line: &mut [u8]) -> usize {
     let mut room = [0u8; RECORD_BYTES];
-    let halvings = arguments::number(2, &mut room);
+    let halvings = arguments::number(rt, 2, &mut room);
     if halvings.next == 0 {
-        return arguments::number_line(b"R", RECORD_BYTES, line);
+        return arguments::number_line(rt, 2, b"R", &mut room, line);
     }
-    read_and_decode(Wanted::Thumbnail(halvings.value), &mut room, label, line)
+    read_and_decode(
+        rt,
+        Wanted::Thumbnail(halvings.value),
+        &mut room,
+        label,
+        line,
+    )
+}
+
+// Whether argument i is the last one.
+fn has_last(rt: &HostRuntime, i: usize) -> bool
+    requires { i ≤ 3 }
+{
+    arguments::is_given(rt, i) && !arguments::is_given(rt, i + 1)
 }
 
 // What stands behind --thumbnail: R and the label.
-fn run_thumbnail(line: &mut [u8]) -> usize {
+fn run_thumbnail(rt: &HostRuntime, line: &mut [u8]) -> usize {
     let mut label = [0u8; 16];
-    let count = os::arg(3, &mut label);
-    if os::arg_count() != 4 || arguments::is_option(&label[..count]) {
-        write_help(STDERR_FILENO);
+    let count = arguments::word(rt, 3, &mut label);
+    if !has_last(rt, 3) || arguments::is_option(&label[..count]) {
+        write_help(&mut rt.stderr());
         return 0;
     }
-    show_thumbnail(&label[..count], line)
+    show_thumbnail(rt, &label[..count], line)
 }
 
 // What stands behind --softer: the label.
-fn run_softer(line: &mut [u8]) -> usize {
+fn run_softer(rt: &HostRuntime, line: &mut [u8]) -> usize {
     let mut label = [0u8; 16];
-    let count = os::arg(2, &mut label);
-    if os::arg_count() != 3 || arguments::is_option(&label[..count]) {
-        write_help(STDERR_FILENO);
+    let count = arguments::word(rt, 2, &mut label);
+    if !has_last(rt, 2) || arguments::is_option(&label[..count]) {
+        write_help(&mut rt.stderr());
         return 0;
     }
-    show(Wanted::Softer, &label[..count], line)
+    show(rt, Wanted::Softer, &label[..count], line)
 }
 
-fn run(line: &mut [u8]) -> usize {
+fn run(rt: &HostRuntime, line: &mut [u8]) -> usize {
     let mut label = [0u8; 16];
-    let count = os::arg(1, &mut label);
+    let count = arguments::word(rt, 1, &mut label);
     if fields::same_bytes(&label[..count], b"--help") {
-        write_help(STDOUT_FILENO);
+        write_help(&mut rt.stdout());
         return 0;
     }
     if fields::same_bytes(&label[..count], b"--version") {
-        pipes::write_all(STDOUT_FILENO, b"decode 0.7.0\n");
+        pipes::write_all(&mut rt.stdout(), b"decode 0.7.0\n");
         return 0;
     }
     if fields::same_bytes(&label[..count], b"--thumbnail") {
-        return run_thumbnail(line);
+        return run_thumbnail(rt, line);
     }
     if fields::same_bytes(&label[..count], b"--softer") {
-        return run_softer(line);
+        return run_softer(rt, line);
     }
-    if os::arg_count() != 2 || arguments::is_option(&label[..count]) {
-        write_help(STDERR_FILENO);
+    if !has_last(rt, 1) || arguments::is_option(&label[..count]) {
+        write_help(&mut rt.stderr());
         return 0;
     }
-    show(Wanted::Picture, &label[..count], line)
+    show(rt, Wanted::Picture, &label[..count], line)
 }
 
-fn main() {
+fn main(rt: HostRuntime) {
     let mut line = [0u8; 864];
-    let count = run(&mut line);
-    pipes::write_front(STDERR_FILENO, &line, count);
+    let count = run(&rt, &mut line);
+    pipes::write_front(&mut rt.stderr(), &line, count);
 }

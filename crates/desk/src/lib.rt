@@ -28,7 +28,7 @@ pub struct Found {
 }
 
 // What is wanted of a record: its picture, a softer one for the eye, or a thumbnail of it, with the side halved so often.
-#[derive(Drop)]
+#[derive(Clone, Copy)]
 pub enum Wanted {
     Picture,
     Softer,

@@ -9,8 +9,9 @@ ghost use Rattle.std.specs.Prelude.{◌≤◌};
 
 use block::BLOCK;
 use desk::{MOST_BLOCKS, MOST_GREYS, PAYLOAD_ROOM, RECORD_BYTES};
-use libc::{STDERR_FILENO, STDIN_FILENO, STDOUT_FILENO};
 use pgm::{Header, MOST_NUMBER, Number};
+use std::io::Write;
+use std::rt::HostRuntime;
 
 // What is read of a picture, header and greys, and before it of an argument in digits.
 const INPUT_BYTES: usize = 12288;
@@ -24,25 +25,25 @@ struct Origin {
 }
 
 // The program's own text, also for a person who used it wrongly.
-fn write_help(fd: i32) {
+fn write_help<W: Write>(to: &mut W) {
     pipes::write_all(
-        fd,
+        to,
         b"usage: encode [--arm ARM --mount MOUNT] LABEL LEVELS [BITS]\n           < picture.pgm > record\n\nMakes a record of a square grey picture (binary PGM, side 8, 16, 32 or 64).\n  LABEL   eight characters, 0-9 or A-Z, as on the cartridge; leading zeros count\n",
     );
     pipes::write_all(
-        fd,
+        to,
         b"  LEVELS  how often the picture is halved: 1 to 5, and to 2, 3 or 4 at side 8,\n          16 or 32. Beyond 2 they save little, and widen a cut's promise\n",
     );
     pipes::write_all(
-        fd,
+        to,
         b"  BITS    keep the first BITS bits only: a coarser picture in fewer blocks, 3936\n          bits to each, or 3904 in edition 2. Without it, or beyond the bits of\n          the picture, all are kept\n",
     );
     pipes::write_all(
-        fd,
+        to,
         b"  ARM     the arm that shot it, 1 or 2; with ARM and MOUNT the record is of\n          edition 2, which names both, and without them of edition 1\n  MOUNT   the arm's mount number, from 0 to 16777215\n",
     );
     pipes::write_all(
-        fd,
+        to,
         b"Silent if all is well; else one line on standard error begins with REFUSED, and\nnothing is written. `label encode` does the same with an exit status.\n",
     );
 }
@@ -108,9 +109,9 @@ fn fault_line(fault: u32, header: Header, bytes: usize, line: &mut [u8]) -> usiz
     }
 }
 
-fn write_record(room: &[u8], blocks: usize, line: &mut [u8]) -> usize {
+fn write_record(rt: &HostRuntime, room: &[u8], blocks: usize, line: &mut [u8]) -> usize {
     if blocks <= MOST_BLOCKS {
-        if pipes::write_front(STDOUT_FILENO, room, BLOCK * blocks) {
+        if pipes::write_front(&mut rt.stdout(), room, BLOCK * blocks) {
             return 0;
         }
     }
@@ -118,6 +119,7 @@ fn write_record(room: &[u8], blocks: usize, line: &mut [u8]) -> usize {
 }
 
 fn encode(
+    rt: &HostRuntime,
     origin: Origin,
     input: &[u8],
     label: &[u8],
@@ -150,11 +152,12 @@ fn encode(
     if made.refusal != 0 {
         return remarks::refused(made.refusal, line);
     }
-    write_record(&room, made.blocks, line)
+    write_record(rt, &room, made.blocks, line)
 }
 
 // LABEL is argument `first`.
 fn read_and_encode(
+    rt: &HostRuntime,
     origin: Origin,
     first: usize,
     room: &mut [u8],
@@ -163,8 +166,8 @@ fn read_and_encode(
     line: &mut [u8],
 ) -> usize {
     let mut label = [0u8; 16];
-    let label_count = os::arg(first, &mut label);
-    let filled = pipes::read_all(STDIN_FILENO, room);
+    let label_count = arguments::word(rt, first, &mut label);
+    let filled = pipes::read_all(&mut rt.stdin(), room);
     let count = filled.count;
     if filled.failed {
         return words::put(b"REFUSED: standard input could not be read\n", line, 0);
@@ -173,6 +176,7 @@ fn read_and_encode(
         return words::put(b"REFUSED: nothing came on standard input\n", line, 0);
     }
     encode(
+        rt,
         origin,
         &room[..count],
         &label[..label_count],
@@ -183,9 +187,9 @@ fn read_and_encode(
 }
 
 // The bit limit, argument i, which is beyond all bits where it is not given.
-fn limit_argument(i: usize, room: &mut [u8]) -> Number {
-    if i < os::arg_count() {
-        return arguments::number(i, room);
+fn limit_argument(rt: &HostRuntime, i: usize, room: &mut [u8]) -> Number {
+    if arguments::is_given(rt, i) {
+        return arguments::number(rt, i, room);
     }
     Number {
         value: MOST_NUMBER,
@@ -194,18 +198,25 @@ fn limit_argument(i: usize, room: &mut [u8]) -> Number {
 }
 
 // LEVELS and BITS stand behind LABEL, which is argument `first`.
-fn read_operands(origin: Origin, first: usize, room: &mut [u8], line: &mut [u8]) -> usize
+fn read_operands(
+    rt: &HostRuntime,
+    origin: Origin,
+    first: usize,
+    room: &mut [u8],
+    line: &mut [u8],
+) -> usize
     requires { first ≤ 5 }
 {
-    let levels = arguments::number(first + 1, room);
+    let levels = arguments::number(rt, first + 1, room);
     if levels.next == 0 {
-        return arguments::number_line(b"LEVELS", INPUT_BYTES, line);
+        return arguments::number_line(rt, first + 1, b"LEVELS", room, line);
     }
-    let limit = limit_argument(first + 2, room);
+    let limit = limit_argument(rt, first + 2, room);
     if limit.next == 0 {
-        return arguments::number_line(b"BITS", INPUT_BYTES, line);
+        return arguments::number_line(rt, first + 2, b"BITS", room, line);
     }
     read_and_encode(
+        rt,
         origin,
         first,
         room,
@@ -216,7 +227,7 @@ fn read_operands(origin: Origin, first: usize, room: &mut [u8], line: &mut [u8])
 }
 
 // Numbers are read through the room that the picture will have. ARM is argument 2 and MOUNT argument 4, where they are given.
-fn read_arguments(named: bool, line: &mut [u8]) -> usize {
+fn read_arguments(rt: &HostRuntime, named: bool, line: &mut [u8]) -> usize {
     let mut room = [0u8; INPUT_BYTES];
     if !named {
         let origin = Origin {
@@ -224,65 +235,64 @@ fn read_arguments(named: bool, line: &mut [u8]) -> usize {
             arm: 0,
             mount: 0,
         };
-        return read_operands(origin, 1, &mut room, line);
+        return read_operands(rt, origin, 1, &mut room, line);
     }
-    let arm = arguments::number(2, &mut room);
+    let arm = arguments::number(rt, 2, &mut room);
     if arm.next == 0 {
-        return arguments::number_line(b"ARM", INPUT_BYTES, line);
+        return arguments::number_line(rt, 2, b"ARM", &mut room, line);
     }
-    let mount = arguments::number(4, &mut room);
+    let mount = arguments::number(rt, 4, &mut room);
     if mount.next == 0 {
-        return arguments::number_line(b"MOUNT", INPUT_BYTES, line);
+        return arguments::number_line(rt, 4, b"MOUNT", &mut room, line);
     }
     let origin = Origin {
         edition: 2,
         arm: arm.value,
         mount: mount.value,
     };
-    read_operands(origin, 5, &mut room, line)
+    read_operands(rt, origin, 5, &mut room, line)
 }
 
 // Whether argument i is this word.
-fn is_word(i: usize, word: &[u8]) -> bool {
+fn is_word(rt: &HostRuntime, i: usize, word: &[u8]) -> bool {
     let mut given = [0u8; 16];
-    let count = os::arg(i, &mut given);
+    let count = arguments::word(rt, i, &mut given);
     fields::same_bytes(&given[..count], word)
 }
 
 // Whether LABEL, LEVELS and at most BITS stand from argument `first` on.
-fn operands_given(first: usize) -> bool
+fn operands_given(rt: &HostRuntime, first: usize) -> bool
     requires { first ≤ 5 }
 {
     let mut label = [0u8; 16];
-    let count = os::arg(first, &mut label);
+    let count = arguments::word(rt, first, &mut label);
     if arguments::is_option(&label[..count]) {
         return false;
     }
-    let given = os::arg_count();
-    first + 2 <= given && given <= first + 3
+    arguments::is_given(rt, first + 1) && !arguments::is_given(rt, first + 3)
 }
 
-fn run(line: &mut [u8]) -> usize {
-    if is_word(1, b"--help") {
-        write_help(STDOUT_FILENO);
+fn run(rt: &HostRuntime, line: &mut [u8]) -> usize {
+    if is_word(rt, 1, b"--help") {
+        write_help(&mut rt.stdout());
         return 0;
     }
-    if is_word(1, b"--version") {
-        pipes::write_all(STDOUT_FILENO, b"encode 0.7.0\n");
+    if is_word(rt, 1, b"--version") {
+        pipes::write_all(&mut rt.stdout(), b"encode 0.7.0\n");
         return 0;
     }
-    if operands_given(1) {
-        return read_arguments(false, line);
+    if operands_given(rt, 1) {
+        return read_arguments(rt, false, line);
     }
-    if is_word(1, b"--arm") && is_word(3, b"--mount") && operands_given(5) {
-        return read_arguments(true, line);
+    if is_word(rt, 1, b"--arm") && is_word(rt, 3, b"--mount") && operands_given(rt, 5) {
+        return read_arguments(rt, true, line);
     }
-    write_help(STDERR_FILENO);
+    write_help(&mut rt.stderr());
     0
 }
 
-fn main() {
+fn main(rt: HostRuntime) {
     let mut line = [0u8; 320];
-    let count = run(&mut line);
-    pipes::write_front(STDERR_FILENO, &line, count);
+    let count = run(&rt, &mut line);
+    pipes::write_front(&mut rt.stderr(), &line, count);
 }

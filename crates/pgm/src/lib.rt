@@ -15,7 +15,7 @@ pub struct Number {
 }
 
 // Whether it is a header; the picture's sides and its largest grey; where the raster begins.
-#[derive(Drop)]
+#[derive(Clone, Copy)]
 pub struct Header {
     pub right: bool,
     pub width: u32,

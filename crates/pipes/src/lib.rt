@@ -88,6 +88,7 @@ pub fn write_all<W: Write>(to: &mut W, bytes: &[u8]) -> bool
 pub fn write_front<W: Write>(to: &mut W, bytes: &[u8], count: usize) -> bool
     ensures all { IsTrue result → Appends (W.contents to.old) (W.contents to.new) (take count bytes.now) }
     ensures enough { IsTrue result → count ≤ length bytes.now }
+    ensures front { (n : ℕ) × (n ≤ count) × Appends (W.contents to.old) (W.contents to.new) (take n bytes.now) }
 {
     if bytes.len() < count {
         return false;

@@ -166,7 +166,7 @@ fn holds(blocks: usize, room: usize) -> bool
 }
 
 #[repr(C)]
-#[derive(Drop)]
+#[derive(Clone, Copy)]
 pub struct Kept {
     pub refusal: u32,
     pub k: u32,
