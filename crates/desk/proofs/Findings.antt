@@ -5,7 +5,6 @@ use Prim.Native.Nat.{ℕ, ◌+◌, ◌^◌, ◌<◌, ◌≤◌}
 use borrow.Author.Tests.{eq-eqb, ne_eqb, le-leb, lt-leb}
 use Rattle.pgm.specs.declared.Header.{Header}
 use Rattle.square_pgm.specs.Sides.{most_held, side_of}
-use Rattle.desk.specs.declared.Found.{Found}
 use Rattle.desk.specs.Desk.{area_of, fault_of, found_of}
 
 module _ (header : Header) (bytes : ℕ) where
