@@ -19,7 +19,7 @@
  *         label_block_check
  *
  *     Link with liblabel.a where it is installed, libconsole.a in the source tree (x86-64, made by
- *     `rt staticlib console`). Of the C library it asks for memcpy and memset, no more.
+ *     tools/archive). Of the C library it asks for memcpy and memset, no more.
  *
  * DESCRIPTION
  *     A picture has S x S greys of one byte, S = 2^k, k from 3 to 8, row by row. Its S x S wavelet numbers,

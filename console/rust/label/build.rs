@@ -1,13 +1,13 @@
 //! Finds the archive that the calls of this package reach, and has it linked.
 //!
 //! It is looked for in the folder that LABEL_LIB_DIR names; if that is not set, where it stands beside the installed
-//! package (PREFIX/share/label/rust and PREFIX/lib), and where it is built (target/staticlib of the source tree).
+//! package (PREFIX/share/label/rust and PREFIX/lib), and where it is built (crates/console/out of the source tree).
 
 use std::env;
 use std::path::{Path, PathBuf};
 use std::process::exit;
 
-/// The archive's names: as it is installed, and as `rt staticlib console` writes it.
+/// The archive's names: as it is installed, and as `tools/archive` has it made.
 const NAMES: [&str; 2] = ["label", "console"];
 
 /// The first of its names under which the archive stands in a folder.
@@ -26,7 +26,7 @@ fn main() {
         None => {
             let package = PathBuf::from(env::var_os("CARGO_MANIFEST_DIR").expect("cargo sets CARGO_MANIFEST_DIR"));
             let top = package.join("../../..");
-            vec![top.join("lib"), top.join("target/staticlib")]
+            vec![top.join("lib"), top.join("crates/console/out")]
         }
     };
     for folder in &folders {

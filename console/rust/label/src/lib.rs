@@ -66,7 +66,7 @@
 //! # Linking
 //! The archive is x86-64 code for ELF, as on Linux, and calls `memcpy` and `memset`, nothing else. `build.rs` looks for
 //! `liblabel.a` or `libconsole.a` in the folder that `LABEL_LIB_DIR` names; if that is not set, in `../../../lib`, where
-//! it stands beside the installed package, and in `../../../target/staticlib`, where the source tree has it.
+//! it stands beside the installed package, and in `../../../crates/console/out`, where the source tree has it.
 
 #![no_std]
 #![deny(missing_docs)]
