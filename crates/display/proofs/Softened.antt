@@ -15,7 +15,7 @@ use Rattle.paper.specs.Softer.{half_of, moved_up, softened}
 use Rattle.integer_laws.specs.Order.{Within}
 use Rattle.line.proofs.Sized.{each_made}
 use Rattle.square_laws.specs.Near.{grown}
-use Rattle.square_laws.specs.Range.{grown_most}
+use Rattle.square_laws.proofs.Range.{grown_most}
 use Rattle.square_laws.specs.Numbers.{in_each}
 use Rattle.levels.specs.Level.{Fitting}
 use Rattle.walk_laws.specs.Cleared.{nat_abs_signed}

@@ -22,7 +22,8 @@ use Rattle.list_laws.specs.Made.{get_d_made}
 use Rattle.integer_laws.specs.Difference.{pos-⊖, negsuc-⊖}
 use Rattle.lift.specs.Off.{Over, Off}
 use Rattle.lift.proofs.Near.{overs}
-use Rattle.square_laws.specs.Picture.{lossless, picture_near}
+use Rattle.square_laws.specs.Picture.{lossless}
+use Rattle.square_laws.proofs.Picture.{picture_near}
 use Rattle.walk_laws.specs.Decoded.{Truthful, decoded_first, decoded_truthful, decoded_truthful_before, decoded_never_worse}
 use Rattle.walk_laws.specs.Place.{NeverBack, first_never_back}
 use Rattle.walk_laws.specs.Read.{decoded_length}

@@ -14,7 +14,8 @@ use Rattle.paper.specs.Block.{block_bytes, Origin, given_back}
 use Rattle.paper.specs.Record.{blocks_for}
 use Rattle.paper.specs.Jobs.{Inverse, thumbnail_refusal, thumbnail_job, written_of}
 use Rattle.sizes.proofs.Ranges.{levels_less}
-use Rattle.square_laws.specs.Thumbnail.{thumbnail_whole, thumbnail_smallest, thumbnail_near}
+use Rattle.square_laws.specs.Thumbnail.{thumbnail_whole, thumbnail_smallest}
+use Rattle.square_laws.proofs.Thumbnail.{thumbnail_near}
 use Rattle.thumbnail.proofs.Refusals.{halvings_few}
 use Rattle.walk_laws.specs.Read.{decoded_length}
 use Rattle.record_laws.specs.ReadBack.{bits_in}

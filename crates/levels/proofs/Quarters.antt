@@ -17,7 +17,8 @@ use Rattle.line.specs.Rule.{Rule}
 use Rattle.square_laws.specs.Undone.{length_level, length_level_back, length_levels_back}
 use Rattle.square_laws.specs.Sizes.{take_each, pass_each, level_each, le_mul_pow}
 use Rattle.square_laws.specs.Near.{grown}
-use Rattle.square_laws.specs.Range.{Sized, first_sized, sized_each, columns_range, levels_range, grown_least}
+use Rattle.square_laws.specs.Range.{Sized, first_sized, sized_each, columns_range, grown_least}
+use Rattle.square_laws.proofs.Range.{levels_range}
 use Rattle.pass.specs.Way.{way}
 use Rattle.levels.specs.Level.{level_way, Fitting, forth}
 

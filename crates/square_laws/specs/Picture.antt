@@ -1,6 +1,6 @@
--- What the paper asks of a picture: it comes back whole, and greys are off by at most (7 L + 1) times what the wavelet
--- numbers are off by, before and after they are set into 0 to 255.
-use Rattle.std.specs.Prelude.{◌≡◌, refl, List, ℕ, ◌+◌, ◌*◌, ◌-◌, ◌^◌, ◌<◌, ◌≤◌, min, length, get_or, pos, ◌+ℤ◌, ◌-ℤ◌}
+-- What the paper asks of a picture: it comes back whole, and setting greys into 0 to 255 moves none further apart. proofs/Picture.antt
+-- has the error law.
+use Rattle.std.specs.Prelude.{◌≡◌, refl, List, ℕ, ◌+◌, ◌-◌, ◌^◌, ◌<◌, ◌≤◌, min, length, get_or, pos, ◌+ℤ◌, ◌-ℤ◌}
 use Rattle.std.proofs.Common.{sym, ap, ◌∙◌, arith, ext_get_or}
 use Rattle.std.proofs.Math.IntN.{ℤ, -ℤ-+ℤ_cancel}
 use Rattle.paper.specs.Lists.{at, Bytes}
@@ -11,10 +11,9 @@ use Rattle.integer_laws.specs.Order.{ints}
 use Rattle.places.proofs.Round.{z_below, raster_of_z}
 use Rattle.lift.specs.Off.{Over, Off}
 use Rattle.lift.proofs.Near.{overs}
-use Rattle.line.proofs.FiveThree.{five_three, five_three_undoes}
+use Rattle.line.proofs.FiveThree.{five_three_undoes}
 use Rattle.list_laws.specs.Made.{length_made, get_d_made}
 use Rattle.square_laws.specs.Undone.{levels_undone}
-use Rattle.square_laws.specs.Near.{levels_near}
 use Rattle.square_laws.specs.Numbers.{length_lowered}
 
 -- ---- every place
@@ -64,22 +63,9 @@ over_grey {B} {x} {y} = rw (split x, split y) (simp grey-⊖ (omega overs))
 pub raised_near : (B k : ℕ) (xs ys : List ℤ) (z : ℕ) → z < 4 ^ k → Off B (at xs z) (at ys z) → Off B (at (raised k xs) z) (at (raised k ys) z)
 raised_near B k xs ys z h o = rw (at_raised k xs z h, at_raised k ys z h) (record { up = over_raised o.up; down = over_raised o.down })
 
--- greys before they are set into 0 to 255
-pub greys_near : (E L k : ℕ) (xs ys : List ℤ) → L ≤ k → length xs ≡ 4 ^ k → length ys ≡ 4 ^ k → ((z : ℕ) → z < 4 ^ k → Off E (at xs z) (at ys z))
-    → (z : ℕ) → z < 4 ^ k → Off ((7 * L + 1) * E) (at (greys_of k L xs) z) (at (greys_of k L ys) z)
-unfolding greys_of
-greys_near E L k xs ys h a b N z l = raised_near _ k _ _ z l (levels_near five_three E L k xs ys h a b N z l)
-
 -- setting greys into 0 to 255 moves none of them further apart
 pub pictured_near : (B k : ℕ) (xs ys : List ℤ) → ((z : ℕ) → z < 4 ^ k → Off B (at xs z) (at ys z))
     → (p : ℕ) → p < 4 ^ k → (get_or (pictured k xs) p 0 ≤ get_or (pictured k ys) p 0 + B) × (get_or (pictured k ys) p 0 ≤ get_or (pictured k xs) p 0 + B)
 pictured_near B k xs ys N p h =
     let o = N (z_of k p) (z_below k p) in
     rw (at_pictured k xs p h, at_pictured k ys p h) (over_grey o.up, over_grey o.down)
-
--- and so the rebuilt picture
-pub picture_near : (E L k : ℕ) (xs ys : List ℤ) → L ≤ k → length xs ≡ 4 ^ k → length ys ≡ 4 ^ k → ((z : ℕ) → z < 4 ^ k → Off E (at xs z) (at ys z))
-    → (p : ℕ) → p < 4 ^ k
-    → (get_or (pictured k (greys_of k L xs)) p 0 ≤ get_or (pictured k (greys_of k L ys)) p 0 + (7 * L + 1) * E)
-    × (get_or (pictured k (greys_of k L ys)) p 0 ≤ get_or (pictured k (greys_of k L xs)) p 0 + (7 * L + 1) * E)
-picture_near E L k xs ys h a b N = pictured_near ((7 * L + 1) * E) k (greys_of k L xs) (greys_of k L ys) (greys_near E L k xs ys h a b N)

@@ -1,20 +1,17 @@
 -- Thumbnails. The first numbers of L levels are the other L - r levels of the low band that r of them leave: so undone, they give
--- that low band back, and two of them are as near as two pictures of L - r levels.
-use Rattle.std.specs.Prelude.{◌≡◌, List, ℕ, zero, suc, ◌+◌, ◌*◌, ◌-◌, ◌^◌, ◌<◌, ◌≤◌, length, take, drop, get_or, ℤ, pos, true}
-use Rattle.std.proofs.Common.{ap, ◌∙◌, arith, not-suc-le-zero, lit<, take_all, length-take-le, get_or-take}
+-- that low band back. proofs/Thumbnail.antt says how near two of them are.
+use Rattle.std.specs.Prelude.{◌≡◌, List, ℕ, zero, suc, ◌-◌, ◌^◌, ◌≤◌, length, take, drop, ℤ, true}
+use Rattle.std.proofs.Common.{ap, ◌∙◌, arith, not-suc-le-zero, lit<, take_all, length-take-le}
 use Rattle.std.proofs.Math.Nat.{pow-le-pow_right}
 use Rattle.std.proofs.lemmas.List.{take-append-le}
 use Rattle.paper.specs.Sizes.{numbers_in}
-use Rattle.paper.specs.Lists.{at}
-use Rattle.paper.specs.Square.{level_forward, on_first, levels_forward, levels_back, lowered, raised, pictured, numbers_of, greys_of, low_band, low_greys_of, thumbnail_of}
-use Rattle.lift.specs.Off.{Off}
+use Rattle.paper.specs.Square.{level_forward, on_first, levels_forward, levels_back, lowered, raised, numbers_of, greys_of, low_band, low_greys_of, thumbnail_of}
 use Rattle.line.specs.Rule.{Rule, Undoes}
 use Rattle.line.proofs.FiveThree.{five_three_undoes}
 use Rattle.square_laws.specs.Grid.{quarter_le}
 use Rattle.square_laws.specs.Undone.{length_level, length_levels, levels_undone}
 use Rattle.square_laws.specs.Sizes.{take_each}
 use Rattle.square_laws.specs.Numbers.{in_each, each_in, length_lowered}
-use Rattle.square_laws.specs.Picture.{picture_near}
 
 -- ---- the first (S / 2 ^ r)² numbers
 pub first_le : (k r : ℕ) → 4 ^ (k - r) ≤ 4 ^ k
@@ -75,13 +72,3 @@ thumbnail_whole r L k picture h l = ap (raised (k - r)) (low_band_back five_thre
 pub thumbnail_smallest : (k L : ℕ) (numbers : List ℤ) → thumbnail_of k L L numbers ≡ raised (k - L) (take (4 ^ (k - L)) numbers)
 unfolding thumbnail_of greys_of levels_back
 thumbnail_smallest k L numbers = let z : L - L ≡ 0 = omega arith in rw z
-
--- where the first numbers differ by at most E, no grey differs by more than (7 (L - r) + 1) E
-pub thumbnail_near : (E r L k : ℕ) (xs ys : List ℤ) → L ≤ k → length xs ≡ 4 ^ k → length ys ≡ 4 ^ k → ((z : ℕ) → z < 4 ^ (k - r) → Off E (at xs z) (at ys z))
-    → (p : ℕ) → p < 4 ^ (k - r)
-    → (get_or (pictured (k - r) (thumbnail_of k L r xs)) p 0 ≤ get_or (pictured (k - r) (thumbnail_of k L r ys)) p 0 + (7 * (L - r) + 1) * E)
-    × (get_or (pictured (k - r) (thumbnail_of k L r ys)) p 0 ≤ get_or (pictured (k - r) (thumbnail_of k L r xs)) p 0 + (7 * (L - r) + 1) * E)
-unfolding thumbnail_of
-thumbnail_near E r L k xs ys l a b N =
-    picture_near E (L - r) (k - r) (take (4 ^ (k - r)) xs) (take (4 ^ (k - r)) ys) (omega arith) (length_first_numbers k r xs a) (length_first_numbers k r ys b)
-    (λ z h. rw (get_or-take (4 ^ (k - r)) xs z (pos 0) h, get_or-take (4 ^ (k - r)) ys z (pos 0) h) (N z h))

@@ -18,7 +18,7 @@ use Rattle.line.specs.Each.{Each, line_limit}
 use Rattle.line.proofs.FiveThree.{five_three}
 use Rattle.square_laws.specs.Undone.{length_levels_back}
 use Rattle.square_laws.specs.Near.{grown}
-use Rattle.square_laws.specs.Range.{levels_range, grown_most}
+use Rattle.square_laws.proofs.Range.{levels_range, grown_most}
 use Rattle.square_laws.specs.Numbers.{in_each, lowered_each}
 use Rattle.levels.specs.Level.{Fitting, forth}
 
