@@ -26,8 +26,10 @@ use Rattle.square_laws.specs.Thumbnail.{thumbnail_whole}
 use Rattle.thumbnail.proofs.Refusals.{halvings_few}
 use Rattle.walk_laws.specs.Decoded.{all_bits}
 use Rattle.walk_laws.specs.Softer.{softened_none}
-use Rattle.walk_laws.specs.Place.{Placed, NeverBack, Stay, decoded_placed, first_never_back, first_stay}
-use Rattle.walk_laws.specs.Unfinished.{AllRead, planes_read, unfinished_true}
+use Rattle.walk_laws.specs.Place.{Placed, NeverBack, Stay, decoded_placed}
+use Rattle.walk_laws.proofs.Place.{first_never_back, first_stay}
+use Rattle.walk_laws.specs.Unfinished.{AllRead, planes_read}
+use Rattle.walk_laws.proofs.Unfinished.{unfinished_true}
 use Rattle.record_laws.specs.BothJobs.{room_written}
 use Rattle.record_laws.specs.ReadBack.{bits_in, every_bit}
 use Rattle.label.specs.Journey.{into_record, Seen, origin_seen, out_of_record, softer_out_of_record, thumbnail_out_of_record}

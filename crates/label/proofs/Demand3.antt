@@ -24,8 +24,10 @@ use Rattle.lift.specs.Off.{Over, Off}
 use Rattle.lift.proofs.Near.{overs}
 use Rattle.square_laws.specs.Picture.{lossless}
 use Rattle.square_laws.proofs.Picture.{picture_near}
-use Rattle.walk_laws.specs.Decoded.{Truthful, decoded_first, decoded_truthful, decoded_truthful_before, decoded_never_worse}
-use Rattle.walk_laws.specs.Place.{NeverBack, first_never_back}
+use Rattle.walk_laws.specs.Decoded.{Truthful, decoded_first}
+use Rattle.walk_laws.proofs.Decoded.{decoded_truthful, decoded_truthful_before, decoded_never_worse}
+use Rattle.walk_laws.specs.Place.{NeverBack}
+use Rattle.walk_laws.proofs.Place.{first_never_back}
 use Rattle.walk_laws.specs.Read.{decoded_length}
 use Rattle.record_laws.specs.ReadBack.{bits_in}
 use Rattle.label.specs.Journey.{into_record, Seen, origin_seen, out_of_record}

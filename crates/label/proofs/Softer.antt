@@ -19,7 +19,8 @@ use Rattle.paper.specs.Jobs.{settled_job, written_of}
 use Rattle.sizes.proofs.Ranges.{levels_less}
 use Rattle.lift.proofs.Near.{off}
 use Rattle.walk_laws.specs.Read.{decoded_length}
-use Rattle.walk_laws.specs.Softer.{Softer, length_softened, decoded_softer, softer_in_planes, softer_off}
+use Rattle.walk_laws.specs.Softer.{Softer, length_softened}
+use Rattle.walk_laws.proofs.Softer.{decoded_softer, softer_in_planes, softer_off}
 use Rattle.record_laws.specs.ReadBack.{bits_in}
 use Rattle.label.specs.Journey.{into_record, Seen, origin_seen, out_of_record, softer_out_of_record}
 use Rattle.label.proofs.Way.{Known}

@@ -3,13 +3,12 @@ use Rattle.std.specs.Prelude.{◌≡◌, refl, Bool, true, false, List, [], ◌�
 use Rattle.std.proofs.Common.{sym, subst, append-nil, pow-suc, mul_left_comm, add-zero, arith, leb-true, le-leb, length-drop, take-append-drop}
 use Rattle.std.proofs.Math.Path.{ap}
 use Rattle.std.proofs.Math.Option.{some}
-use Prim.Native.Nat.{ℕ, zero, suc, ◌+◌, ◌*◌, ◌-◌, ◌/◌, ◌^◌, ◌≤◌, ◌<◌}
+use Prim.Native.Nat.{ℕ, zero, suc, ◌+◌, ◌*◌, ◌-◌, ◌/◌, ◌^◌, ◌≤◌}
 use Rattle.std.proofs.Math.Nat.{pow-le-pow_right, two-pow-succ, suc-mul}
 use Rattle.std.proofs.Math.ListN.{length, length-append}
-use Rattle.paper.specs.Sizes.{most_bits}
-use Rattle.paper.specs.Walk.{reaches, is_one, Coder, test_set, walk_number, walk_numbers, walk_set, walk_rest, walk_plane, walk_planes, code_of, plane_count, depth, ◌next◌}
+use Rattle.paper.specs.Walk.{reaches, is_one, Coder, test_set, walk_number, walk_numbers, walk_set, walk_rest, walk_plane, walk_planes, ◌next◌}
 use Rattle.list_laws.specs.Parts.{fourth}
-use Rattle.walk_laws.specs.Asks.{square_sized, test_known, test_asks, number_known, number_asks, after_bit, opened}
+use Rattle.walk_laws.specs.Asks.{test_known, test_asks, number_known, number_asks, after_bit, opened}
 use Rattle.walk_laws.specs.Planes.{planes_code, code_step}
 
 -- ---- one plane
@@ -182,9 +181,3 @@ module _ (d L : ℕ) (xs : List ℤ) (h : length xs ≡ 4 ^ (suc d + L)) where
       let e : 3 * (t + length xs) ≡ 4 * length xs - 1 = omega (arith, plane_tests d L) in
       let f : n * (3 * (t + length xs)) ≡ 3 * (n * (t + length xs)) = mul_left_comm n 3 (t + length xs) in
       omega (arith, cost_planes n, signs_most n xs, f, ap (λ k. n * k) e)
-
--- A coding has at most n (4 S² - 1) / 3 + S² bits.
-pub coding_bound : (k L : ℕ) (xs : List ℤ) → L < k → length xs ≡ 4 ^ k → length (code_of k L xs) ≤ most_bits k (plane_count xs)
-unfolding code_of most_bits
-coding_bound k L xs levels square =
-    rw square at (planes_bound (depth k L) L xs (square_sized k L xs levels square) (plane_count xs))

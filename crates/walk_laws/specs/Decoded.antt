@@ -1,22 +1,22 @@
 -- What the coding of numbers decodes to: all of it, and any first part of it.
 use Rattle.std.specs.Prelude.{◌≡◌, refl, Bool, true, List, [], ◌∷◌, ◌++◌, map, ℕ, zero, suc, ◌+◌, ◌-◌, ◌/◌, ◌^◌, ◌≤◌, ◌<◌, leb, ltb, ℤ, pos, neg_ℤ, nat_abs, ◌-ℤ◌, replicate}
 use Rattle.std.proofs.Math.Path.{sym, ap}
-use Rattle.std.proofs.Common.{◌∙◌, append-nil, pow_mono, leb-false, lt-ltb, ltb-true, ltb-false, take_all, take-add, drop-cons}
+use Rattle.std.proofs.Common.{◌∙◌, append-nil, pow_mono, leb-false, lt-ltb, ltb-true, ltb-false, take_all}
 use Rattle.std.proofs.Math.Bool.{false}
 use Rattle.std.proofs.Math.Nat.{two-pow-succ}
 use native.Mathlib.Omega.{arith}
-use Rattle.std.proofs.Math.ListN.{length, take, drop, get_or, length-append, take-append-drop}
+use Rattle.std.proofs.Math.ListN.{length, take, length-append}
 use Rattle.paper.specs.Sizes.{numbers_in, most_planes}
 use Rattle.paper.specs.Lists.{at, pick}
 use Rattle.paper.specs.Walk.{negative, signed, largest, bits_needed, plane_count, Decoder, Tape, walk_planes, depth, code_of, decode_of, Settled, unread_at}
 use Rattle.sizes.proofs.Numbers.{largest_in}
 use Rattle.integer_laws.specs.Difference.{◌⊖◌, split, pos-⊖}
 use Rattle.integer_laws.specs.Order.{ints, zarith}
-use Rattle.walk_laws.specs.Cleared.{high, cleared, nat_abs_cleared, high_le, lt_high, high_mono, negative_signed, signed_zero, signed_self, cleared_none, cleared_small}
+use Rattle.walk_laws.specs.Cleared.{high, cleared, nat_abs_cleared, high_le, lt_high, negative_signed, signed_zero, signed_self, cleared_none, cleared_small}
 use Rattle.walk_laws.specs.Asks.{square_sized}
 use Rattle.walk_laws.specs.Together.{tape}
 use Rattle.walk_laws.specs.Read.{decoded_as}
-use Rattle.walk_laws.specs.Planes.{unsettled, unsettled_is, settled_at, Stopped, Further, run, run_whole, run_part}
+use Rattle.walk_laws.specs.Planes.{unsettled, settled_at, Stopped, run, run_whole}
 
 -- ---- one number
 -- z, from which p planes are unfinished, against the true number x
@@ -25,7 +25,7 @@ pub record Truthful (p : ℕ) (x z : ℤ) : Type 0 where
   pub not_short : nat_abs x - nat_abs z ≤ 2 ^ p - 1
   pub right_sign : (z ≡ pos 0 → ⊥) → negative z ≡ negative x
 
-cleared_truthful : (q p : ℕ) (x : ℤ) → q ≤ p → Truthful p x (cleared q x)
+pub cleared_truthful : (q p : ℕ) (x : ℤ) → q ≤ p → Truthful p x (cleared q x)
 unfolding cleared
 cleared_truthful q p x h = record {
   not_above = omega (arith, nat_abs_cleared q x, high_le q (nat_abs x));
@@ -38,7 +38,7 @@ cleared_truthful q p x h = record {
     go (suc m) e k = negative_signed (negative x) (high q (nat_abs x)) (omega arith)
 
 -- at most p bits of a number are unread, and p - 1 before the place
-unread_before : (p z i : ℕ) → i < z → unread_at p z i ≡ p - 1
+pub unread_before : (p z i : ℕ) → i < z → unread_at p z i ≡ p - 1
 unfolding unread_at
 unread_before p z i h = ap (λ b. pick b (p - 1) p) (lt-ltb i z h)
 
@@ -61,12 +61,12 @@ pub gap : (s : Bool) (a b : ℕ) → nat_abs (signed s a -ℤ signed s b) ≡ (a
 gap false a b = upward_gap (pos a) (pos b) a b (pos-⊖ a) (pos-⊖ b)
 gap true a b = turned_gap (pos a) (pos b) ∙ upward_gap (pos a) (pos b) a b (pos-⊖ a) (pos-⊖ b)
 
-cleared_gap : (q : ℕ) (x : ℤ) → nat_abs (x -ℤ cleared q x) ≡ nat_abs x - high q (nat_abs x)
+pub cleared_gap : (q : ℕ) (x : ℤ) → nat_abs (x -ℤ cleared q x) ≡ nat_abs x - high q (nat_abs x)
 unfolding cleared
 cleared_gap q x =
     ap (λ z. nat_abs (z -ℤ signed (negative x) (high q (nat_abs x)))) (sym (signed_self x)) ∙ gap (negative x) (nat_abs x) (high q (nat_abs x)) ∙ omega (arith, high_le q (nat_abs x))
 
-no_gap : (x : ℤ) → nat_abs (x -ℤ x) ≡ 0
+pub no_gap : (x : ℤ) → nat_abs (x -ℤ x) ≡ 0
 no_gap x = rw (split x) (simp ints (omega arith))
 
 -- ---- the plane count fits
@@ -114,7 +114,7 @@ module _ (k L : ℕ) (xs : List ℤ) (levels : L < k) (square : length xs ≡ 4 
   pub start_cleared : map (cleared n) xs ≡ replicate (4 ^ k) (pos 0)
   start_cleared = all_cleared n xs (count_fits xs numbers_in_lem) ∙ ap (λ j. replicate j (pos 0)) square
 
-  decoded : (l : List Bool) {v : List ℤ × ℕ} {t : Tape} → run d L xs sized n l ≡ (v, t)
+  pub decoded : (l : List Bool) {v : List ℤ × ℕ} {t : Tape} → run d L xs sized n l ≡ (v, t)
       → decode_of k L n l ≡ record { numbers = v.0; unfinished = v.1; read = length l - length t.left; place = t.place }
   decoded l e = decoded_as k L n l (ap (λ z. walk_planes Decoder d L n z (tape l false 0)) (sym start_cleared) ∙ e)
 
@@ -128,71 +128,14 @@ module _ (k L : ℕ) (xs : List ℤ) (levels : L < k) (square : length xs ≡ 4 
   pub all_bits : (b : ℕ) → length code ≤ b → decoded_first k L xs b ≡ record { numbers = xs; unfinished = 0; read = length code; place = 0 }
   all_bits b h = ap (decode_of k L n) (take_all b code h ∙ sym (append-nil code)) ∙ coding_decoded []
 
-  -- the first b bits and the first c, neither all of them
-  some_bits : (b c : ℕ) → b ≤ c → c < length code → Further xs n (run d L xs sized n (take b code)) (run d L xs sized n (take c code))
-  unfolding code_of
-  some_bits b c h g =
-      let k = take (c - b) (drop b code) in
-      let join : take b code ++ k ≡ take c code = sym (take-add b (c - b) code) ∙ ap (λ j. take j code) (let e : b + (c - b) ≡ c = omega arith in e) in
-      let e : (take b code ++ k) ++ get_or code c false ∷ drop (suc c) code ≡ code = (λ i. join i ++ sym (drop-cons code c false g) i) ∙ take-append-drop c code in
-      rw join at (run_part d L xs sized n (take b code) k (get_or code c false) (drop (suc c) code) e)
-
   -- number i, where the decoder stops in a plane
-  stopped_at : (b i : ℕ) {p j : ℕ} → Stopped xs n p j (run d L xs sized n (take b code))
+  pub stopped_at : (b i : ℕ) {p j : ℕ} → Stopped xs n p j (run d L xs sized n (take b code))
       → at (decoded_first k L xs b).numbers i ≡ cleared (unsettled p j i) (at xs i)
   stopped_at b i {p = p} {j = j} S = ap (λ (s : Settled). at s.numbers i) (decoded (take b code) S.is) ∙ settled_at p j xs i
 
-  split_bits : (b : ℕ) (A : Type 0) → (length code ≤ b → A) → (b < length code → A) → A
+  pub split_bits : (b : ℕ) (A : Type 0) → (length code ≤ b → A) → (b < length code → A) → A
   split_bits b A f g = go (ltb b (length code)) refl
     where
       go : (o : Bool) → ltb b (length code) ≡ o → A
       go true e = g (ltb-true b (length code) e)
       go false e = f (ltb-false b (length code) e)
-
-  -- the low bits of number i that the first b bits leave unread
-  abbrev pub unread_first : ℕ → ℕ → ℕ
-  unread_first b i = unread_at (decoded_first k L xs b).unfinished (decoded_first k L xs b).place i
-
-  -- Of any first part: number i is the true one with its unread bits cleared.
-  pub decoded_at : (b i : ℕ) → at (decoded_first k L xs b).numbers i ≡ cleared (unread_first b i) (at xs i)
-  decoded_at b i = split_bits b _ every some
-    where
-      none : (u : ℕ) → u ≤ 0 → at xs i ≡ cleared u (at xs i)
-      none u h = sym (cleared_none (at xs i)) ∙ ap (λ u. cleared u (at xs i)) (let e : 0 ≡ u = omega arith in e)
-
-      every : length code ≤ b → at (decoded_first k L xs b).numbers i ≡ cleared (unread_first b i) (at xs i)
-      every h = rw (all_bits b h) (none (unread_at 0 0 i) (unread_most 0 0 i))
-
-      some : b < length code → at (decoded_first k L xs b).numbers i ≡ cleared (unread_first b i) (at xs i)
-      some g =
-          let S = some_bits b b (omega arith) g in
-          stopped_at b i S.fewer ∙ ap (λ u. cleared u (at xs i)) (unsettled_is S.plane S.count i ∙ ap (λ (s : Settled). unread_at s.unfinished s.place i) (sym (decoded (take b code) S.fewer.is)))
-
-  -- So where no more than q of its bits are unread no magnitude is above the true one, none short by more than 2 ^ q - 1, none but 0 has the wrong sign.
-  unread_truthful : (b i q : ℕ) → unread_first b i ≤ q → Truthful q (at xs i) (at (decoded_first k L xs b).numbers i)
-  unread_truthful b i q h = rw (decoded_at b i) (cleared_truthful (unread_first b i) q (at xs i) h)
-
-  -- That is so of every number with p, and with p - 1 of those before the place.
-  pub decoded_truthful : (b i : ℕ) → Truthful (decoded_first k L xs b).unfinished (at xs i) (at (decoded_first k L xs b).numbers i)
-  decoded_truthful b i = unread_truthful b i _ (unread_most _ _ i)
-
-  pub decoded_truthful_before : (b i : ℕ) → i < (decoded_first k L xs b).place → Truthful ((decoded_first k L xs b).unfinished - 1) (at xs i) (at (decoded_first k L xs b).numbers i)
-  decoded_truthful_before b i h = unread_truthful b i _ (omega (arith, unread_before (decoded_first k L xs b).unfinished (decoded_first k L xs b).place i (omega (arith, h))))
-
-  -- More bits never move a number away from the truth.
-  pub decoded_never_worse : (b c i : ℕ) → b ≤ c
-      → nat_abs (at xs i -ℤ at (decoded_first k L xs c).numbers i) ≤ nat_abs (at xs i -ℤ at (decoded_first k L xs b).numbers i)
-  decoded_never_worse b c i h = split_bits c _ every some
-    where
-      x : ℤ
-      x = at xs i
-
-      every : length code ≤ c → nat_abs (x -ℤ at (decoded_first k L xs c).numbers i) ≤ nat_abs (x -ℤ at (decoded_first k L xs b).numbers i)
-      every g = rw (all_bits c g) (omega (arith, no_gap x))
-
-      some : c < length code → nat_abs (x -ℤ at (decoded_first k L xs c).numbers i) ≤ nat_abs (x -ℤ at (decoded_first k L xs b).numbers i)
-      some g =
-          let S = some_bits b c h g in
-          let q = unsettled S.plane S.count i in
-          let r = unsettled S.plane' S.count' i in
-          rw (stopped_at b i S.fewer, stopped_at c i S.more) (omega (arith, cleared_gap q x, cleared_gap r x, high_mono r q (nat_abs x) (S.settles i)))

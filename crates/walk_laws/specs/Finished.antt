@@ -4,24 +4,23 @@ use Rattle.std.proofs.Common.{sym, ◌∙◌, append-nil, leb-true, leb-false}
 use Rattle.std.proofs.Math.Path.{ap}
 use Rattle.std.proofs.Math.Bool.{false}
 use native.Mathlib.Omega.{arith}
-use Rattle.std.proofs.Math.ListN.{length, length-drop}
+use Rattle.std.proofs.Math.ListN.{length}
 use Rattle.paper.specs.Sizes.{numbers_in}
 use Rattle.paper.specs.Walk.{behind_plane, plane_count, depth, code_of, decode_of, Settled}
 use Rattle.walk_laws.specs.Cleared.{cleared}
-use Rattle.walk_laws.specs.Asks.{square_sized}
 use Rattle.walk_laws.specs.Together.{tape}
 use Rattle.walk_laws.specs.Plane.{together_plane}
 use Rattle.walk_laws.specs.Planes.{planes_code, code_step}
-use Rattle.walk_laws.specs.Decoded.{decoded_first, start_cleared, coding_decoded}
+use Rattle.walk_laws.specs.Decoded.{coding_decoded}
 use Rattle.walk_laws.specs.Down.{walk_down, down_step, down_ends}
-use Rattle.walk_laws.specs.Unfinished.{planes_over, AllRead, bits_through, finished_read, through_first, last_bit_any, before_last_bit_any}
+use Rattle.walk_laws.specs.Unfinished.{AllRead, finished_read}
 
 -- how many bits the coding has up to the last bit of plane q: all but those of planes q - 1 to 0
 unfoldable pub coded_through : ℕ → ℕ → List ℤ → ℕ → ℕ
 coded_through k L xs q = length (code_of k L xs) - length (planes_code (depth k L) L xs q)
 
 -- over the coding of planes n - 1 to 0, planes n - 1 to q leave the coding of the others
-down_coding : (d L : ℕ) (xs : List ℤ) → length xs ≡ 4 ^ (suc d + L) → (q n : ℕ) → q ≤ n
+pub down_coding : (d L : ℕ) (xs : List ℤ) → length xs ≡ 4 ^ (suc d + L) → (q n : ℕ) → q ≤ n
     → walk_down d L q n (map (cleared n) xs) (tape (planes_code d L xs n) false 0) ≡ (map (cleared q) xs, tape (planes_code d L xs q) false 0)
 down_coding d L xs h q zero g = unfold walk_down in (λ i. let e : 0 ≡ q = omega arith in (map (cleared (e i)) xs, tape (planes_code d L xs (e i)) false 0))
 down_coding d L xs h q (suc p) g = go (leb q p) refl (down_coding d L xs h q p)
@@ -41,25 +40,5 @@ module _ (k L : ℕ) (xs : List ℤ) (levels : L < k) (square : length xs ≡ 4 
   abbrev code : List Bool
   code = code_of k L xs
 
-  coding_read : (q : ℕ) → AllRead k L n q code
+  pub coding_read : (q : ℕ) → AllRead k L n q code
   coding_read q = finished_read k L n q code (omega (arith, ap (λ (s : Settled). s.unfinished) (ap (decode_of k L n) (sym (append-nil code)) ∙ coding_decoded k L xs levels square numbers_in_lem [])))
-
-  -- the decoder's count of the bits is the coder's
-  coding_left : (q : ℕ) → q ≤ n → bits_through k L n q code + length (planes_code d L xs q) ≡ length code
-  unfolding planes_over bits_through code_of
-  coding_left q h =
-      let left : (planes_over k L n q code).1 ≡ planes_code d L xs q = ap (λ z. (walk_down d L q n z (tape code false 0)).1.left) (sym (start_cleared k L xs levels square numbers_in_lem))
-      ∙ ap (λ r. r.1.left) (down_coding d L xs (square_sized k L xs levels square) q n h) in
-      omega (arith, ap length left, ap length (through_first k L n q code (coding_read q)), length-drop (bits_through k L n q code) code)
-
-  -- The last bit of plane q is where the coder wrote it.
-  pub coding_through : (q : ℕ) → q ≤ n → bits_through k L n q code ≡ coded_through k L xs q
-  unfolding coded_through
-  coding_through q h = omega (arith, coding_left q h)
-
-  -- After it exactly q planes are unfinished, and one bit before it q + 1.
-  pub last_bit : (q : ℕ) → q ≤ n → (decoded_first k L xs (coded_through k L xs q)).unfinished ≡ q
-  last_bit q h = rw coding_through at (last_bit_any k L n q code h (coding_read q))
-
-  pub before_last_bit : (q : ℕ) → q < n → (decoded_first k L xs (coded_through k L xs q - 1)).unfinished ≡ suc q
-  before_last_bit q h = rw (coding_through q (omega arith)) at (before_last_bit_any k L n q code h (coding_read q))

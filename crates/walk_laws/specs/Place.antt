@@ -2,7 +2,7 @@
 -- never move it back.
 use Rattle.std.specs.Prelude.{◌≡◌, Bool, true, leb, ltb, ℤ, pos, nat_abs, length, take, drop, replicate}
 use Rattle.std.proofs.Math.Path.{refl, sym, ap}
-use Rattle.std.proofs.Common.{◌∙◌, add-zero, ltb-true, ltb-false, length-append, take-append-drop, take-add}
+use Rattle.std.proofs.Common.{◌∙◌, add-zero, ltb-true, ltb-false, length-append, take-append-drop}
 use Rattle.std.proofs.Math.Bool.{false}
 use Rattle.std.proofs.Math.Option.{Option, none, some}
 use mathlib.Core.List.{List, [], ◌∷◌, ◌++◌}
@@ -13,7 +13,7 @@ use Rattle.std.proofs.lemmas.List.{length-replicate}
 use Rattle.std.proofs.Math.ListN.{get_or-append}
 use Rattle.std.proofs.Math.Seq.{get_or-append-add}
 use Rattle.paper.specs.Lists.{at}
-use Rattle.paper.specs.Walk.{reaches, Due, place_after, Decoder, Tape, next_bit, is_one, test_set, refined, begun, walk_number, walk_numbers, walk_set, walk_plane, walk_planes, depth, decode_of, Settled, ◌next◌}
+use Rattle.paper.specs.Walk.{reaches, Due, place_after, Decoder, Tape, next_bit, is_one, test_set, refined, begun, walk_number, walk_numbers, walk_set, walk_plane, walk_planes, depth, decode_of, ◌next◌}
 use Rattle.walk_laws.specs.Asks.{test_known, test_asks, number_known, number_asks, after_bit, opened}
 use Rattle.walk_laws.specs.Together.{tape, Decodes}
 use Rattle.walk_laws.specs.Read.{enough_is, enough_more, Outcome, enough, short, Reads, Length, reads_bit, reads_both, reads_done, reads_more, reads_next}
@@ -309,7 +309,7 @@ module _ (d L : ℕ) where
         go (enough E) = rw (plane_finished d L p xs (tape l false 0) (enough_is E)) (ih E.answer (E.known ∙ h) E.rest)
         go (short g S) = rw (plane_stopped d L p xs (tape l false 0) S.is) (record { below = stopped_in l S.is; none = λ e. absurd (omega arith) })
 
-    plane_goes_on : ((ys : List ℤ) → length ys ≡ N → (l r : List Bool) → GoesOn (planes p ys l) (planes p ys (l ++ r))) → (l r : List Bool) → GoesOn (planes (suc p) xs l) (planes (suc p) xs (l ++ r))
+    pub plane_goes_on : ((ys : List ℤ) → length ys ≡ N → (l r : List Bool) → GoesOn (planes p ys l) (planes p ys (l ++ r))) → (l r : List Bool) → GoesOn (planes (suc p) xs l) (planes (suc p) xs (l ++ r))
     plane_goes_on ih l r = go (M.reads.from l 0) (M.reads.from (l ++ r) 0)
       where
         go : Ends l → Ends (l ++ r) → GoesOn (planes (suc p) xs l) (planes (suc p) xs (l ++ r))
@@ -329,42 +329,15 @@ module _ (d L : ℕ) where
   planes_placed zero xs h l = unfold walk_planes in (record { below = omega (arith, pow-le-pow_right {n = 4} (omega arith) {i = 0} {j = suc d + L} (omega arith)); none = λ _. refl })
   planes_placed (suc p) xs h l = plane_placed p xs h (planes_placed p) l
 
-  planes_go_on : (n : ℕ) (xs : List ℤ) → length xs ≡ N → (l r : List Bool) → GoesOn (planes n xs l) (planes n xs (l ++ r))
-  planes_go_on zero xs h l r = unfold walk_planes in (record { fewer = omega arith; higher = λ _. omega arith }, λ _ i h. absurd (omega arith))
-  planes_go_on (suc p) xs h l r = plane_goes_on p xs h (planes_go_on p) l r
-
 -- ---- decoding
 module _ (k L n : ℕ) (levels : L < k) where
   abbrev start : List ℤ
   start = replicate (4 ^ k) (pos 0)
 
-  size : 4 ^ (suc (depth k L) + L) ≡ 4 ^ k
+  pub size : 4 ^ (suc (depth k L) + L) ≡ 4 ^ k
   size = ap (λ j. 4 ^ j) (let e : suc (depth k L) + L ≡ k = omega arith in e)
 
   -- Of any bits: the place is one of the S², and 0 where no plane is unfinished.
   pub decoded_placed : (l : List Bool) → Placed (4 ^ k) (decode_of k L n l).unfinished (decode_of k L n l).place
   unfolding decode_of
   decoded_placed l = rw size at (planes_placed (depth k L) L n start (length-replicate (4 ^ k) (pos 0) ∙ sym size) l)
-
-  goes_on : (l r : List Bool) → let s = decode_of k L n l in let t = decode_of k L n (l ++ r) in
-      NeverBack s.unfinished s.place t.unfinished t.place × Stay s.unfinished t.unfinished s.place s.numbers t.numbers
-  unfolding decode_of
-  goes_on l r = planes_go_on (depth k L) L n start (length-replicate (4 ^ k) (pos 0) ∙ sym size) l r
-
-  module _ (l : List Bool) (b c : ℕ) (h : b ≤ c) where
-    abbrev s : Settled
-    s = decode_of k L n (take b l)
-
-    abbrev t : Settled
-    t = decode_of k L n (take c l)
-
-    join : take c l ≡ take b l ++ take (c - b) (drop b l)
-    join = ap (λ j. take j l) (let e : c ≡ b + (c - b) = omega arith in e) ∙ take-add b (c - b) l
-
-    -- More of any bits never move planes and place back.
-    pub first_never_back : NeverBack s.unfinished s.place t.unfinished t.place
-    first_never_back = rw join (goes_on (take b l) (take (c - b) (drop b l))).0
-
-    -- What is settled is settled: while the plane runs, no further bit changes a number before the place.
-    pub first_stay : Stay s.unfinished t.unfinished s.place s.numbers t.numbers
-    first_stay = rw join (goes_on (take b l) (take (c - b) (drop b l))).1

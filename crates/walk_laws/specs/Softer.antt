@@ -1,18 +1,16 @@
 -- What a softer number is worth: the true one with its unread bits cleared and, if that isn't zero, moved up by half of what they leave
 -- unknown.
-use Rattle.std.specs.Prelude.{◌≡◌, refl, Bool, true, false, List, [], ◌∷◌, ℕ, zero, suc, ◌+◌, ◌-◌, ◌*◌, ◌/◌, ◌^◌, ◌<◌, ◌≤◌, ltb, eqb, ℤ, pos, nat_abs, ◌-ℤ◌, length, take}
-use Rattle.std.proofs.Common.{sym, ap, ◌∙◌, add-zero, add-mul, one-mul, mul-le-mul_right, div-mul-le_self, arith, pow-add, pow_pos, pow_mono, ne_eqb, ltb-true, ltb-false}
+use Rattle.std.specs.Prelude.{◌≡◌, refl, Bool, true, false, List, [], ◌∷◌, ℕ, zero, suc, ◌+◌, ◌-◌, ◌*◌, ◌/◌, ◌^◌, ◌<◌, ◌≤◌, ltb, eqb, ℤ, pos, nat_abs, ◌-ℤ◌, length}
+use Rattle.std.proofs.Common.{sym, ap, ◌∙◌, add-zero, add-mul, one-mul, mul-le-mul_right, div-mul-le_self, arith, pow-add, pow_pos, ne_eqb, ltb-true, ltb-false}
 use Rattle.std.proofs.Math.Nat.{two-pow-succ}
 use Rattle.std.proofs.Math.Decide.{dec_lt}
 use Rattle.std.proofs.Math.ListN.{get_or-eq_default}
-use Rattle.paper.specs.Sizes.{numbers_in}
 use Rattle.paper.specs.Lists.{at, pick}
-use Rattle.paper.specs.Walk.{negative, signed, largest, plane_count, code_of, unread_at}
+use Rattle.paper.specs.Walk.{negative, signed, largest, unread_at}
 use Rattle.paper.specs.Softer.{half_of, moved_up, softened}
 use Rattle.list_laws.specs.Made.{length_made, get_d_made, made_is}
-use Rattle.walk_laws.specs.Cleared.{high, cleared, high_le, lt_high, nat_abs_cleared, nat_abs_signed, negative_signed, signed_zero, signed_self}
-use Rattle.walk_laws.specs.Decoded.{gap, unread_most, count_fits, decoded_first, unread_first, decoded_at}
-use Rattle.walk_laws.specs.Unfinished.{unfinished_most}
+use Rattle.walk_laws.specs.Cleared.{high, cleared, high_le, nat_abs_cleared, nat_abs_signed, negative_signed, signed_zero, signed_self}
+use Rattle.walk_laws.specs.Decoded.{gap, unread_most}
 
 -- y, shown for the stored number z, against the true number x of which u low bits are unread
 pub record Softer (u : ℕ) (x z y : ℤ) : Type 0 where
@@ -50,7 +48,7 @@ unfolding half_of
 half_exact zero m c e a b = omega arith
 half_exact (suc u) m c e a b = absurd (omega arith)
 
-softer_signed : (u : ℕ) (s : Bool) (m c : ℕ) → c ≤ m → m < c + 2 ^ u → Softer u (signed s m) (signed s c) (moved_up (half_of u) (signed s c))
+pub softer_signed : (u : ℕ) (s : Bool) (m c : ℕ) → c ≤ m → m < c + 2 ^ u → Softer u (signed s m) (signed s c) (moved_up (half_of u) (signed s c))
 softer_signed u s m zero a b = rw (moved_zero (half_of u) (signed s 0) (signed_zero s)) (record {
   exact = λ e. ap (signed s) (let z : 0 ≡ m = omega (arith, ap (λ u. 2 ^ u) e) in z);
   near = λ h k. absurd (k (signed_zero s));
@@ -65,11 +63,6 @@ softer_signed u s m (suc c) a b = rw (moved_signed (half_of u) s c) (record {
   right_sign = λ k. negative_signed s (suc c + half_of u) (omega arith) ∙ sym (negative_signed s m (omega arith));
   within = rw (gap s m (suc c + half_of u)) (half_within u m (suc c) a b);
 })
-
-pub softer_cleared : (u : ℕ) (x : ℤ) → Softer u x (cleared u x) (moved_up (half_of u) (cleared u x))
-unfolding cleared
-softer_cleared u x =
-    rw (signed_self x) at (softer_signed u (negative x) (nat_abs x) (high u (nat_abs x)) (high_le u (nat_abs x)) (lt_high u (nat_abs x)))
 
 -- a number below 2 ^ n is shown below 2 ^ n
 high_below : (u n m : ℕ) → u ≤ n → m < 2 ^ n → high u m + 2 ^ u ≤ 2 ^ n
@@ -127,32 +120,8 @@ pub softened_none : (place : ℕ) (xs : List ℤ) → softened 0 place xs ≡ xs
 unfolding softened half_of
 softened_none place xs = sym (made_is (pos 0) (length xs) _ xs refl (λ i h. let u : unread_at 0 place i ≡ 0 = omega (arith, unread_most 0 place i) in sym (ap (λ u. moved_up (half_of u) (at xs i)) u ∙ moved_none (at xs i))))
 
-at_most : (xs : List ℤ) (i : ℕ) → nat_abs (at xs i) ≤ largest xs
+pub at_most : (xs : List ℤ) (i : ℕ) → nat_abs (at xs i) ≤ largest xs
 unfolding largest
 at_most [] i = omega arith
 at_most (x ∷ xs) zero = omega arith
 at_most (x ∷ xs) (suc i) = omega (arith, at_most xs i)
-
--- Of any first part of a coding: each number shown against the true one.
-module _ (k L : ℕ) (xs : List ℤ) (levels : L < k) (square : length xs ≡ 4 ^ k) (numbers_in_lem : numbers_in xs ≡ true) where
-  -- the numbers shown of the first b bits
-  abbrev pub shown_first : ℕ → List ℤ
-  shown_first b = let s = decoded_first k L xs b in softened s.unfinished s.place s.numbers
-
-  pub decoded_softer : (b i : ℕ) → Softer (unread_first k L xs levels square numbers_in_lem b i) (at xs i) (at (decoded_first k L xs b).numbers i) (at (shown_first b) i)
-  decoded_softer b i =
-      let s = decoded_first k L xs b in
-      rw (at_softened s.unfinished s.place s.numbers i, decoded_at k L xs levels square numbers_in_lem b i) (softer_cleared (unread_first k L xs levels square numbers_in_lem b i) (at xs i))
-
-  -- and it stays below 2 ^ n, n the plane count
-  pub softer_in_planes : (b i : ℕ) → nat_abs (at (shown_first b) i) < 2 ^ plane_count xs
-  softer_in_planes b i =
-      let s = decoded_first k L xs b in
-      rw (at_softened s.unfinished s.place s.numbers i, decoded_at k L xs levels square numbers_in_lem b i)
-      (softer_below (unread_first k L xs levels square numbers_in_lem b i) (plane_count xs) (at xs i) (omega (arith, unread_most s.unfinished s.place i, unfinished_most k L (plane_count xs) (take b (code_of k L xs)))) (omega (arith, at_most xs i, count_fits xs numbers_in_lem)))
-
-  -- so none is further off than demand 3 says of the stored one
-  pub softer_off : (b i : ℕ) → nat_abs (at xs i -ℤ at (shown_first b) i) ≤ 2 ^ (decoded_first k L xs b).unfinished - 1
-  softer_off b i =
-      let s = decoded_first k L xs b in
-      omega (arith, (decoded_softer b i).within, pow_mono (unread_most s.unfinished s.place i))

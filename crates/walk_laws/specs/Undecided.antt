@@ -1,41 +1,39 @@
 -- The place is not too low: while a plane runs, the number at the place is open. Two ways to go on both finish the plane, and leave
 -- different numbers there.
-use Rattle.std.specs.Prelude.{◌≡◌, refl, Bool, true, leb, ℤ, pos, nat_abs, take, drop, replicate}
+use Rattle.std.specs.Prelude.{◌≡◌, refl, Bool, true, leb, ℤ, pos, nat_abs, replicate}
 use Rattle.std.proofs.Math.Path.{sym, ap}
-use Rattle.std.proofs.Common.{◌∙◌, zero-add, pow_pos, length-append, take-append-drop, get_or-append-add}
+use Rattle.std.proofs.Common.{◌∙◌, zero-add, pow_pos, length-append, get_or-append-add}
 use Rattle.std.proofs.Math.Bool.{false}
 use Rattle.std.proofs.Math.Option.{Option, none, some}
-use mathlib.Core.List.{List, [], ◌∷◌, ◌++◌, append-nil, append_assoc}
-use Prim.Native.Nat.{ℕ, zero, suc, ◌+◌, ◌-◌, ◌^◌, ◌≤◌, ◌<◌}
-use Rattle.std.proofs.Math.Nat.{pow-le-pow_right}
+use mathlib.Core.List.{List, [], ◌∷◌, ◌++◌, append_assoc}
+use Prim.Native.Nat.{ℕ, zero, suc, ◌+◌, ◌-◌, ◌^◌, ◌<◌}
 use native.Mathlib.Omega.{arith}
 use Rattle.std.proofs.Math.ListN.{length, get_or-append}
 use Rattle.std.proofs.lemmas.List.{length-replicate}
 use Rattle.paper.specs.Lists.{at}
-use Rattle.paper.specs.Walk.{negative, reaches, Due, place_after, Decoder, Tape, is_one, test_set, refined, begun, walk_number, walk_numbers, walk_plane, walk_planes, depth, decode_of, ◌next◌}
+use Rattle.paper.specs.Walk.{negative, reaches, Due, place_after, Decoder, Tape, is_one, test_set, refined, begun, walk_number, decode_of, ◌next◌}
 use Rattle.walk_laws.specs.Cleared.{nat_abs_signed, negative_signed}
-use Rattle.walk_laws.specs.Asks.{test_known, test_asks, number_known, number_asks, opened, square_sized}
+use Rattle.walk_laws.specs.Asks.{test_known, test_asks, number_known, number_asks, opened}
 use Rattle.walk_laws.specs.Together.{tape, Decodes}
-use Rattle.walk_laws.specs.Read.{Enough, Outcome, enough, short, Length, enough_is, enough_more}
-use Rattle.walk_laws.specs.Planes.{plane_finished, plane_stopped}
-use Rattle.walk_laws.specs.Over.{Walk, tested, split, over_plane}
-use Rattle.walk_laws.specs.Place.{Moved, past, within, Moves, moves_length, moves_done, on_bit, moves_tested, moves_number, moves_numbers, moves_split}
+use Rattle.walk_laws.specs.Read.{Enough, Outcome, enough, short, Length}
+use Rattle.walk_laws.specs.Over.{Walk, tested}
+use Rattle.walk_laws.specs.Place.{Moved, past, within, Moves, moves_length, on_bit, moves_tested}
 
 -- a bit was missed or none was, not both
-not_both : {l k : List Bool} {y z : ℕ} → tape l false y ≡ tape k true z → ⊥
+pub not_both : {l k : List Bool} {y z : ℕ} → tape l false y ≡ tape k true z → ⊥
 not_both e = let t : ◌≡◌ {A = Bool} false true = ap (λ (t : Tape). t.missed) e in let y : ◌≡◌ {A = ℕ} 0 1 = cc in omega arith
 
 -- ---- to the end of a walk
 -- from the place z on, the walk f takes the bits l and no more: they settle its n places, and a comes back
-record Ends (n : ℕ) (f : Decodes (List ℤ)) (l : List Bool) (z : ℕ) (a : List ℤ) : Type 0 where
-  is : (s : List Bool) → f (tape (l ++ s) false z) ≡ (a, tape s false (z + n))
+pub record Ends (n : ℕ) (f : Decodes (List ℤ)) (l : List Bool) (z : ℕ) (a : List ℤ) : Type 0 where
+  pub is : (s : List Bool) → f (tape (l ++ s) false z) ≡ (a, tape s false (z + n))
 
 -- as many numbers as places
-ends_length : {n : ℕ} {f : Decodes (List ℤ)} {l : List Bool} {z : ℕ} {a : List ℤ} → Moves n f → Ends n f l z a → length a ≡ n
+pub ends_length : {n : ℕ} {f : Decodes (List ℤ)} {l : List Bool} {z : ℕ} {a : List ℤ} → Moves n f → Ends n f l z a → length a ≡ n
 ends_length {l = l} {z = z} M E = ap (λ r. length r.0) (sym (E.is [])) ∙ moves_length M (l ++ []) z
 
 -- where a walk has enough, the bits it takes end it
-enough_ends : {n K : ℕ} {f : Decodes (List ℤ)} {l : List Bool} {z : ℕ} → Moves n f → (E : Enough (Length n) K f l z) → Ends n f E.taken z E.answer
+pub enough_ends : {n K : ℕ} {f : Decodes (List ℤ)} {l : List Bool} {z : ℕ} → Moves n f → (E : Enough (Length n) K f l z) → Ends n f E.taken z E.answer
 enough_ends {n} {f = f} {z = z} M E = record { is = λ s. E.is s ∙ ap (λ y. (E.answer, tape s false y)) (go (M.moved (E.taken ++ []) z)) }
   where
     go : Moved n z (f (tape (E.taken ++ []) false z)).1 → E.place ≡ z + n
@@ -58,21 +56,21 @@ ending {n} {f} M z = go (M.reads.from (replicate M.most false) z)
 
 -- ---- two ways to go on
 -- after the bits l number j of the walk f is open: r₁ and r₂ both end the walk, and leave different numbers there
-record Ways (n : ℕ) (f : Decodes (List ℤ)) (l : List Bool) (z j : ℕ) : Type 0 where
-  r₁ : List Bool
-  r₂ : List Bool
-  a₁ : List ℤ
-  a₂ : List ℤ
-  one : Ends n f (l ++ r₁) z a₁
-  two : Ends n f (l ++ r₂) z a₂
-  differ : at a₁ j ≡ at a₂ j → ⊥
+pub record Ways (n : ℕ) (f : Decodes (List ℤ)) (l : List Bool) (z j : ℕ) : Type 0 where
+  pub r₁ : List Bool
+  pub r₂ : List Bool
+  pub a₁ : List ℤ
+  pub a₂ : List ℤ
+  pub one : Ends n f (l ++ r₁) z a₁
+  pub two : Ends n f (l ++ r₂) z a₂
+  pub differ : at a₁ j ≡ at a₂ j → ⊥
 
 -- where no bit is left: one was missed before, or there are places, and one is missed now
-abbrev out : Bool → ℕ → Bool
+abbrev pub out : Bool → ℕ → Bool
 out m zero = m
 out m (suc n) = true
 
-out_some : (m : Bool) (n : ℕ) → 0 < n → out m n ≡ true
+pub out_some : (m : Bool) (n : ℕ) → 0 < n → out m n ≡ true
 out_some m zero h = absurd (omega arith)
 out_some m (suc n) h = refl
 
@@ -82,9 +80,9 @@ out_out m (suc a) zero = sym (out_some m (suc a + 0) (omega arith))
 out_out m (suc a) (suc b) = sym (out_some m (suc a + suc b) (omega arith))
 
 -- a walk f over xs: where no bit is left it changes nothing, and wherever it misses one, the number at the place is open
-record Undecided (xs : List ℤ) (f : Decodes (List ℤ)) : Type 0 where
-  dry : (m : Bool) (z : ℕ) → f (tape [] m z) ≡ (xs, tape [] (out m (length xs)) z)
-  ways : (l : List Bool) (z j : ℕ) → (f (tape l false z)).1 ≡ tape [] true (z + j) → Ways (length xs) f l z j
+pub record Undecided (xs : List ℤ) (f : Decodes (List ℤ)) : Type 0 where
+  pub dry : (m : Bool) (z : ℕ) → f (tape [] m z) ≡ (xs, tape [] (out m (length xs)) z)
+  pub ways : (l : List Bool) (z j : ℕ) → (f (tape l false z)).1 ≡ tape [] true (z + j) → Ways (length xs) f l z j
 
 -- ---- one part, then the next
 module _ {m n : ℕ} {f g : Decodes (List ℤ)} (F : Moves m f) (G : Moves n g) (w : ℕ) (sum : m + n ≡ w) where
@@ -97,7 +95,7 @@ module _ {m n : ℕ} {f g : Decodes (List ℤ)} (F : Moves m f) (G : Moves n g) 
   }
 
   -- a number of the first is open: the second is ended somehow
-  ways_first : (l : List Bool) (z j : ℕ) → j < m → Ways m f l z j → Ways w (◌next◌ Decoder f g) l z j
+  pub ways_first : (l : List Bool) (z j : ℕ) → j < m → Ways m f l z j → Ways w (◌next◌ Decoder f g) l z j
   ways_first l z j h W = record {
     r₁ = W.r₁ ++ D.bits;
     r₂ = W.r₂ ++ D.bits;
@@ -115,7 +113,7 @@ module _ {m n : ℕ} {f g : Decodes (List ℤ)} (F : Moves m f) (G : Moves n g) 
       front {a = a} E = get_or-append a D.answer (pos 0) j (omega (arith, ends_length F E))
 
   -- the first is ended: a number of the second is open
-  ways_second : (l : List Bool) (z j : ℕ) (E : Enough (Length m) F.most f l z) → Ways n g E.rest (z + m) j → Ways w (◌next◌ Decoder f g) l z (m + j)
+  pub ways_second : (l : List Bool) (z j : ℕ) (E : Enough (Length m) F.most f l z) → Ways n g E.rest (z + m) j → Ways w (◌next◌ Decoder f g) l z (m + j)
   ways_second l z j E W = record {
     r₁ = W.r₁;
     r₂ = W.r₂;
@@ -134,41 +132,12 @@ module _ {m n : ℕ} {f g : Decodes (List ℤ)} (F : Moves m f) (G : Moves n g) 
 
 module _ {xs ys : List ℤ} {f g : Decodes (List ℤ)} (F : Moves (length xs) f) (G : Moves (length ys) g) (U : Undecided xs f) (W : Undecided ys g) where
   -- no bit for either
-  dry_both : (m : Bool) (z : ℕ) → ◌next◌ Decoder f g (tape [] m z) ≡ (xs ++ ys, tape [] (out m (length (xs ++ ys))) z)
+  pub dry_both : (m : Bool) (z : ℕ) → ◌next◌ Decoder f g (tape [] m z) ≡ (xs ++ ys, tape [] (out m (length (xs ++ ys))) z)
   unfolding ◌next◌
   dry_both m z =
       let h = length xs in
       ap (λ r. (r.0 ++ (g r.1).0, (g r.1).1)) (U.dry m z) ∙ ap (λ r. (xs ++ r.0, r.1)) (W.dry (out m h) z)
       ∙ ap (λ b. (xs ++ ys, tape [] b z)) (out_out m h (length ys) ∙ ap (out m) (sym (length-append xs ys)))
-
-  -- the bits end in the first, or in the second
-  ways_both : (l : List Bool) (z j : ℕ) → (◌next◌ Decoder f g (tape l false z)).1 ≡ tape [] true (z + j) → Ways (length (xs ++ ys)) (◌next◌ Decoder f g) l z j
-  unfolding ◌next◌
-  ways_both l z j e = go (F.reads.from l z) (F.moved l z)
-    where
-      sum : length xs + length ys ≡ length (xs ++ ys)
-      sum = sym (length-append xs ys)
-
-      -- the place is one of the second's
-      late : (E : Enough (Length (length xs)) F.most f l z) → let t = (g (tape E.rest false (z + length xs))).1 in
-          t ≡ tape [] true (z + j) → Moved (length ys) (z + length xs) t → Ways (length (xs ++ ys)) (◌next◌ Decoder f g) l z j
-      late E b (past k a) = absurd (not_both (sym a ∙ b))
-      late E b (within i h a) =
-          let k : length xs + i ≡ j = omega (arith, ap (λ (t : Tape). t.place) (sym a ∙ b)) in
-          rw k at (ways_second F G (length (xs ++ ys)) sum l z i E (W.ways E.rest (z + length xs) i a))
-
-      go : Outcome (Length (length xs)) F.most f l z → Moved (length xs) z (f (tape l false z)).1 → Ways (length (xs ++ ys)) (◌next◌ Decoder f g) l z j
-      go (short _ S) (past k q) = absurd (not_both (sym q ∙ ap (λ r. r.1) S.is))
-      go (short _ S) (within i h q) =
-          let k : i ≡ j = omega (arith, ap (λ (t : Tape). t.place) (sym (ap (λ t. (g t).1) q ∙ G.still (z + i)) ∙ e)) in
-          rw k at (ways_first F G (length (xs ++ ys)) sum l z i h (U.ways l z i q))
-      go (enough E) _ =
-          let s = ap (λ m. (f (tape m false z)).1) E.parts ∙ ap (λ r. r.1) ((enough_ends F E).is E.rest) in
-          late E (ap (λ t. (g t).1) (sym s) ∙ e) (G.moved E.rest (z + length xs))
-
-  -- both, over all their numbers
-  undecided_both : (zs : List ℤ) → xs ++ ys ≡ zs → Undecided zs (◌next◌ Decoder f g)
-  undecided_both zs e = rw (sym e) (record { dry = dry_both; ways = ways_both })
 
 -- ---- a bit
 -- a 1 opens a walk that can still go both ways, a 0 leaves it closed
@@ -211,7 +180,7 @@ undecided_last due k x apart = record { dry = λ m z. refl; ways = go }
 
 -- ---- the walk
 -- a test asks for a bit, or is known to be open
-undecided_tested : (p : ℕ) (xs : List ℤ) (f : Decodes (List ℤ)) → 0 < length xs → Undecided xs f → Undecided xs (Decoder.then (test_set Decoder p xs) (opened Decoder xs f))
+pub undecided_tested : (p : ℕ) (xs : List ℤ) (f : Decodes (List ℤ)) → 0 < length xs → Undecided xs f → Undecided xs (Decoder.then (test_set Decoder p xs) (opened Decoder xs f))
 undecided_tested p xs f there U = go (reaches (2 ^ suc p) xs) refl
   where
     go : (b : Bool) → reaches (2 ^ suc p) xs ≡ b → Undecided xs (Decoder.then (test_set Decoder p xs) (opened Decoder xs f))
@@ -219,7 +188,7 @@ undecided_tested p xs f there U = go (reaches (2 ^ suc p) xs) refl
     go false e = rw (test_asks Decoder p xs e) (undecided_asked xs f there U)
 
 -- a number gets one more bit, or a first one and its sign
-undecided_number : (p : ℕ) (x : ℤ) → Undecided (x ∷ []) (walk_number Decoder p x)
+pub undecided_number : (p : ℕ) (x : ℤ) → Undecided (x ∷ []) (walk_number Decoder p x)
 unfolding refined begun
 undecided_number p x = go (leb (2 ^ suc p) (nat_abs x)) refl
   where
@@ -238,82 +207,21 @@ undecided_number p x = go (leb (2 ^ suc p) (nat_abs x)) refl
     go false e = rw (number_asks Decoder p x e) (undecided_asked (x ∷ []) _ (omega arith) (undecided_last Due.sign (λ b z. refl) (begun Decoder p x) other_side))
 
 -- no number, and numbers in order
-undecided_nothing : Undecided [] (λ t. ([], t))
+pub undecided_nothing : Undecided [] (λ t. ([], t))
 undecided_nothing = record { dry = λ m z. refl; ways = λ l z j e. absurd (not_both e) }
-
-undecided_numbers : (p : ℕ) (xs : List ℤ) → Undecided xs (walk_numbers Decoder p xs)
-unfolding walk_numbers
-undecided_numbers p [] = undecided_nothing
-undecided_numbers p (x ∷ xs) = undecided_both (moves_number p x) (moves_numbers p xs) (undecided_number p x) (undecided_numbers p xs) (x ∷ xs) refl
 
 -- so with every walk over a plane
 module _ (p : ℕ) where
   abbrev UndecidedOver : Walk → List ℤ → Type 0
   UndecidedOver w xs = Moves (length xs) (w Decoder xs) × Undecided xs (w Decoder xs)
 
-  undecided_behind : (w : Walk) (xs : List ℤ) → 0 < length xs → UndecidedOver w xs → UndecidedOver (tested p w) xs
+  pub undecided_behind : (w : Walk) (xs : List ℤ) → 0 < length xs → UndecidedOver w xs → UndecidedOver (tested p w) xs
   undecided_behind w xs there U = (moves_tested p xs _ there U.0, undecided_tested p xs _ there U.1)
 
-  undecided_split : (w v : Walk) (n : ℕ) (xs : List ℤ) → n ≤ length xs → UndecidedOver w (take n xs) → UndecidedOver v (drop n xs) → UndecidedOver (split w v n) xs
-  undecided_split w v n xs h U W = (moves_split p w v n xs h U.0 W.0, undecided_both U.0 W.0 U.1 W.1 xs (take-append-drop n xs))
-
-  undecided_plane : (d L : ℕ) (xs : List ℤ) → length xs ≡ 4 ^ (suc d + L) → UndecidedOver (λ R. walk_plane R d L p) xs
-  undecided_plane = over_plane p UndecidedOver (moves_done [] refl, undecided_nothing) (λ xs. (moves_numbers p xs, undecided_numbers p xs)) undecided_behind undecided_split
-
 -- ---- the planes
-module _ (d L : ℕ) where
-  abbrev N : ℕ
-  N = 4 ^ (suc d + L)
-
-  -- what bits l make of xs
-  abbrev planes : ℕ → List ℤ → List Bool → (List ℤ × ℕ) × Tape
-  planes n xs l = walk_planes Decoder d L n xs (tape l false 0)
-
-  -- r runs in a plane that s and t have finished, with different numbers where r has its place
-  abbrev Apart : (r s t : (List ℤ × ℕ) × Tape) → Type 0
-  Apart r s t = (s.0.1 ≡ r.0.1 - 1) × (t.0.1 ≡ r.0.1 - 1) × (at s.0.0 r.1.place ≡ at t.0.0 r.1.place → ⊥)
-
-  -- two ways to go on from l
-  record Fork (n : ℕ) (xs : List ℤ) (l : List Bool) : Type 0 where
-    r₁ : List Bool
-    r₂ : List Bool
-    apart : Apart (planes n xs l) (planes n xs (l ++ r₁)) (planes n xs (l ++ r₂))
-
-  -- where no bit is left all planes are unfinished, nothing changes, and nothing is settled
-  pub planes_dry : (n : ℕ) (xs : List ℤ) → length xs ≡ N → ((planes n xs []).0 ≡ (xs, n)) × ((planes n xs []).1.place ≡ 0)
-  planes_dry zero xs h = unfold walk_planes in (refl, refl)
-  planes_dry (suc p) xs h =
-      let there : 0 < length xs = omega (arith, h, pow-le-pow_right {n = 4} (omega arith) {i = 0} {j = suc d + L} (omega arith)) in
-      let e = plane_stopped d L p xs (tape [] false 0) ((undecided_plane p d L xs h).1.dry false 0 ∙ ap (λ b. (xs, tape [] b 0)) (out_some false (length xs) there)) in
-      (ap (λ r. r.0) e, ap (λ r. r.1.place) e)
-
-  -- the planes that the bits finish, then the one they stop in
-  planes_fork : (n : ℕ) (xs : List ℤ) → length xs ≡ N → (l : List Bool) → 0 < (planes n xs l).0.1 → Fork n xs l
-  planes_fork zero xs h l runs = absurd (let y : 0 < 0 = unfold walk_planes in runs in omega arith)
-  planes_fork (suc p) xs h l runs = go (M.reads.from l 0) (planes_fork p)
-    where
-      M : Moves (length xs) (walk_plane Decoder d L p xs)
-      M = (undecided_plane p d L xs h).0
-
-      -- a plane that l finishes, and one that l and r just finish
-      through : (E : Enough (Length (length xs)) M.most (walk_plane Decoder d L p xs) l 0) (r : List Bool) → planes (suc p) xs (l ++ r) ≡ planes p E.answer (E.rest ++ r)
-      through E r = plane_finished d L p xs (tape (l ++ r) false 0) (enough_is (enough_more r E))
-
-      below : (r : List Bool) {a : List ℤ} → Ends (length xs) (walk_plane Decoder d L p xs) (l ++ r) 0 a → (planes (suc p) xs (l ++ r)).0 ≡ (a, p)
-      below r {a} E =
-          let e = ap (λ k. walk_plane Decoder d L p xs (tape k false 0)) (sym (append-nil (l ++ r))) ∙ E.is [] in
-          ap (λ r. r.0) (plane_finished d L p xs (tape (l ++ r) false 0) e) ∙ (planes_dry p a (ends_length M E ∙ h)).0
-
-      go : Outcome (Length (length xs)) M.most (walk_plane Decoder d L p xs) l 0
-          → ((ys : List ℤ) → length ys ≡ N → (l : List Bool) → 0 < (planes p ys l).0.1 → Fork p ys l) → Fork (suc p) xs l
-      go (enough E) ih =
-          let e = plane_finished d L p xs (tape l false 0) (enough_is E) in
-          let T = ih E.answer (E.known ∙ h) E.rest (rw e at runs) in
-          record { r₁ = T.r₁; r₂ = T.r₂; apart = rw (e, through E T.r₁, through E T.r₂) T.apart }
-      go (short g S) ih =
-          let W = (undecided_plane p d L xs h).1.ways l 0 S.place (ap (λ r. r.1) S.is ∙ ap (tape [] true) (sym (zero-add S.place))) in
-          let e = plane_stopped d L p xs (tape l false 0) S.is in
-          record { r₁ = W.r₁; r₂ = W.r₂; apart = rw (e, below W.r₁ W.one, below W.r₂ W.two) (omega arith, omega arith, W.differ) }
+-- r runs in a plane that s and t have finished, with different numbers where r has its place
+abbrev pub Apart : (r s t : (List ℤ × ℕ) × Tape) → Type 0
+Apart r s t = (s.0.1 ≡ r.0.1 - 1) × (t.0.1 ≡ r.0.1 - 1) × (at s.0.0 r.1.place ≡ at t.0.0 r.1.place → ⊥)
 
 -- ---- decoding
 -- The number at the place is open: the bits r₁ and r₂ both finish the running plane, and leave different numbers there.
@@ -323,11 +231,3 @@ pub record Open (k L n : ℕ) (l : List Bool) : Type 0 where
   pub one : (decode_of k L n (l ++ r₁)).unfinished ≡ (decode_of k L n l).unfinished - 1
   pub two : (decode_of k L n (l ++ r₂)).unfinished ≡ (decode_of k L n l).unfinished - 1
   pub differ : let place = (decode_of k L n l).place in at (decode_of k L n (l ++ r₁)).numbers place ≡ at (decode_of k L n (l ++ r₂)).numbers place → ⊥
-
--- Of any bits: while a plane is unfinished, the number at the place is open.
-pub place_open : (k L n : ℕ) → L < k → (l : List Bool) → 0 < (decode_of k L n l).unfinished → Open k L n l
-unfolding decode_of
-place_open k L n levels l runs =
-    let start = replicate (4 ^ k) (pos 0) in
-    let T = planes_fork (depth k L) L n start (square_sized k L start levels (length-replicate (4 ^ k) (pos 0))) l runs in
-    record { r₁ = T.r₁; r₂ = T.r₂; one = T.apart.0; two = T.apart.1; differ = T.apart.2 }

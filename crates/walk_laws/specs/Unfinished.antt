@@ -8,12 +8,10 @@ use Rattle.std.proofs.Math.Nat.{pow-le-pow_right}
 use Rattle.std.proofs.lemmas.Bool.{lt-leb}
 use Rattle.std.proofs.Math.ListN.{length, length-append}
 use Rattle.std.proofs.lemmas.List.{length-replicate}
-use Rattle.std.proofs.Math.Seq.{take-append-add, drop-append_seam}
+use Rattle.std.proofs.Math.Seq.{take-append-add}
 use Rattle.paper.specs.Walk.{Decoder, walk_planes, depth, decode_of}
 use Rattle.walk_laws.specs.Together.{tape, Decodes}
 use Rattle.walk_laws.specs.Read.{Enough, enough_is, enough_more, Missed, Outcome, enough, short, Length, most_read}
-use Rattle.walk_laws.specs.Asks.{square_sized}
-use Rattle.walk_laws.specs.Undecided.{planes_dry}
 use Rattle.walk_laws.specs.Down.{walk_down, count_most, none_left, reads_down, missed_is, down_place, goes_on}
 
 -- ---- planes n - 1 down to q
@@ -38,7 +36,7 @@ count_below (suc n) f = elim (f n) [ true ↦ suc (count_below n f) | false ↦ 
 abbrev pub planes_read : ℕ → ℕ → ℕ → List Bool → ℕ → ℕ
 planes_read k L n m b = count_below n (λ q. leb (bits_through k L n q m) b)
 
-count_from : (p n : ℕ) → count_below n (leb p) ≡ n - p
+pub count_from : (p n : ℕ) → count_below n (leb p) ≡ n - p
 unfolding count_below
 count_from p zero = omega arith
 count_from p (suc n) = go (leb p n) refl (count_from p n)
@@ -78,7 +76,7 @@ module _ (k L n : ℕ) where
   short_unfinished : (q : ℕ) (l : List Bool) → Missed (Length (4 ^ k)) (down q) (tape l false 0) → q < unfinished l
   short_unfinished q l M = ltb-true q (unfinished l) (sym (missed_more q l) ∙ ap (λ r. r.1.missed) M.is)
 
-  finished_has : (q : ℕ) (l : List Bool) → unfinished l ≤ q → Has q l
+  pub finished_has : (q : ℕ) (l : List Bool) → unfinished l ≤ q → Has q l
   finished_has q l h = go (outcome q l)
     where
       go : HasOrNot q l → Has q l
@@ -86,7 +84,7 @@ module _ (k L n : ℕ) where
       go (short g M) = absurd (omega (arith, short_unfinished q l M))
 
   -- as many bits as decoding can read
-  most_has : (q : ℕ) (l : List Bool) → most_read k L n ≤ length l → Has q l
+  pub most_has : (q : ℕ) (l : List Bool) → most_read k L n ≤ length l → Has q l
   most_has q l h = go (outcome q l)
     where
       go : HasOrNot q l → Has q l
@@ -98,23 +96,23 @@ module _ (k L n : ℕ) where
       let none : (down q (tape l false 0)).1.missed ≡ false = ap (λ r. r.1.missed) (enough_is E) in
       ap (λ r. r.1.place) (sym (enough_is E)) ∙ down_place (depth k L) L (4 ^ k) q n start (length-replicate (4 ^ k) (pos 0)) l none
 
-  has_over : (q : ℕ) (l : List Bool) (E : Has q l) → planes_over k L n q l ≡ (E.answer, E.rest)
+  pub has_over : (q : ℕ) (l : List Bool) (E : Has q l) → planes_over k L n q l ≡ (E.answer, E.rest)
   unfolding planes_over
   has_over q l E = ap (λ r. (r.0, r.1.left)) (enough_is E)
 
-  has_through : (q : ℕ) (l : List Bool) (E : Has q l) → bits_through k L n q l ≡ length E.taken
+  pub has_through : (q : ℕ) (l : List Bool) (E : Has q l) → bits_through k L n q l ≡ length E.taken
   unfolding bits_through
   has_through q l E = omega (arith, ap (λ r. length r.1) (has_over q l E), ap length E.parts, length-append E.taken E.rest)
 
   -- they are the first ones
-  has_first : (q : ℕ) (m : List Bool) (E : Has q m) → take (bits_through k L n q m) m ≡ E.taken
+  pub has_first : (q : ℕ) (m : List Bool) (E : Has q m) → take (bits_through k L n q m) m ≡ E.taken
   has_first q m E = (λ i. take (has_through q m E i) (E.parts i)) ∙ take_at E.taken E.rest (length E.taken) refl
 
-  has_same : (q : ℕ) (l : List Bool) → Has q l → (r : List Bool) → planes_over k L n q (l ++ r) ≡ ((planes_over k L n q l).0, (planes_over k L n q l).1 ++ r)
+  pub has_same : (q : ℕ) (l : List Bool) → Has q l → (r : List Bool) → planes_over k L n q (l ++ r) ≡ ((planes_over k L n q l).0, (planes_over k L n q l).1 ++ r)
   has_same q l E r = has_over q (l ++ r) (enough_more r E) ∙ ap (λ s. (s.0, s.1 ++ r)) (sym (has_over q l E))
 
   -- cut behind their last bit the planes are finished, cut before it they are not
-  has_cut : (q : ℕ) (m : List Bool) (E : Has q m) (b : ℕ) → leb (unfinished (take b m)) q ≡ leb (length E.taken) b
+  pub has_cut : (q : ℕ) (m : List Bool) (E : Has q m) (b : ℕ) → leb (unfinished (take b m)) q ≡ leb (length E.taken) b
   has_cut q m E b = go (leb (length E.taken) b) refl (outcome q (take b m))
     where
       c : ℕ
@@ -141,19 +139,15 @@ module _ (k L n : ℕ) where
       go false e (short g M) = lt-leb (unfinished (take b m)) q (short_unfinished q (take b m) M)
 
   -- after the last bit of these planes the others have none
-  has_others : (q : ℕ) (m : List Bool) → q ≤ n → (E : Has q m) → walk_planes Decoder (depth k L) L n start (tape E.taken false 0) ≡ walk_planes Decoder (depth k L) L q E.answer (tape [] false 0)
+  pub has_others : (q : ℕ) (m : List Bool) → q ≤ n → (E : Has q m) → walk_planes Decoder (depth k L) L n start (tape E.taken false 0) ≡ walk_planes Decoder (depth k L) L q E.answer (tape [] false 0)
   has_others q m h E =
       let s : down q (tape E.taken false 0) ≡ (E.answer, tape [] false 0) = ap (λ l. down q (tape l false 0)) (sym (append-nil E.taken)) ∙ E.is []
       ∙ ap (λ z. (E.answer, tape [] false z)) (has_place q m E) in
       goes_on (depth k L) L (4 ^ k) q n start (length-replicate (4 ^ k) (pos 0)) E.taken h (ap (λ r. r.1.missed) s) ∙ ap (λ r. walk_planes Decoder (depth k L) L q r.0 r.1) s
 
-  has_last : (q : ℕ) (m : List Bool) → q ≤ n → (E : Has q m) → unfinished E.taken ≡ q
+  pub has_last : (q : ℕ) (m : List Bool) → q ≤ n → (E : Has q m) → unfinished E.taken ≡ q
   unfolding decode_of
   has_last q m h E = ap (λ r. r.0.1) (has_others q m h E) ∙ none_left (depth k L) L q E.answer (omega (arith, E.known, pow-le-pow_right {n = 4} (omega arith) {i = 0} {j = k} (omega arith)))
-
-  has_none : L < k → (q : ℕ) (m : List Bool) → q ≤ n → (E : Has q m) → (decode_of k L n E.taken).place ≡ 0
-  unfolding decode_of
-  has_none levels q m h E = ap (λ r. r.1.place) (has_others q m h E) ∙ (planes_dry (depth k L) L q E.answer (square_sized k L E.answer levels E.known)).1
 
   -- ---- any bits
   -- Bits as many as decoding can read have every bit of every plane: so any bits are a first part of such bits.
@@ -164,63 +158,7 @@ module _ (k L n : ℕ) where
   pub finished_read : (q : ℕ) (l : List Bool) → unfinished l ≤ q → AllRead k L n q l
   finished_read q l h r = ap (λ s. s.1) (has_same q l (finished_has q l h) r)
 
-  pub read_finished : (q : ℕ) (l : List Bool) → AllRead k L n q l → unfinished l ≤ q
-  read_finished q l a =
-      let z = replicate (most_read k L n) false in
-      let E = most_has q (l ++ z) (omega (arith, length-append l z, length-replicate (most_read k L n) false)) in
-      let none : length E.taken ≤ length l = omega (arith, ap length (ap (λ s. s.1) (sym (has_over q (l ++ z) E)) ∙ a z), length-append (planes_over k L n q l).1 z, length-append l z, ap length E.parts, length-append E.taken E.rest) in
-      leb-true (unfinished l) q (ap (λ m. leb (unfinished m) q) (sym (take_at l z (length l) refl)) ∙ has_cut q (l ++ z) E (length l) ∙ le-leb (length E.taken) (length l) none)
-
-  -- Then more bits change nothing about these planes.
-  pub read_same : (q : ℕ) (l : List Bool) → AllRead k L n q l → (r : List Bool) → planes_over k L n q (l ++ r) ≡ ((planes_over k L n q l).0, (planes_over k L n q l).1 ++ r)
-  read_same q l a = has_same q l (finished_has q l (read_finished q l a))
-
-  -- The bits that they take are the first ones.
-  pub through_first : (q : ℕ) (m : List Bool) → AllRead k L n q m → (planes_over k L n q m).1 ≡ drop (bits_through k L n q m) m
-  through_first q m a =
-      let E = finished_has q m (read_finished q m a) in
-      ap (λ s. s.1) (has_over q m E) ∙ sym (drop-append_seam E.taken E.rest) ∙ (λ i. drop (sym (has_through q m E) i) (sym E.parts i))
-
-  -- Of bits m that have every bit of planes n - 1 to q, the first b finish these planes exactly if they reach their last bit.
-  pub cut_finished : (q : ℕ) (m : List Bool) → AllRead k L n q m → (b : ℕ) → leb (unfinished (take b m)) q ≡ leb (bits_through k L n q m) b
-  cut_finished q m a b = let E = finished_has q m (read_finished q m a) in has_cut q m E b ∙ ap (λ c. leb c b) (sym (has_through q m E))
-
-  first_part : (q : ℕ) (l r : List Bool) → AllRead k L n q (l ++ r) → leb (unfinished l) q ≡ leb (bits_through k L n q (l ++ r)) (length l)
-  first_part q l r a = ap (λ m. leb (unfinished m) q) (sym (take_at l r (length l) refl)) ∙ cut_finished q (l ++ r) a (length l)
-
-  -- Where they have not all been read, all of l is read (`read_all`), and a further bit is due.
-  pub unfinished_due : (q : ℕ) (l : List Bool) → q < unfinished l → (r : List Bool) → AllRead k L n q (l ++ r) → length l < bits_through k L n q (l ++ r)
-  unfinished_due q l h r a = leb-false (bits_through k L n q (l ++ r)) (length l) (sym (first_part q l r a) ∙ lt-leb (unfinished l) q h)
-
-  -- After the last bit of plane q exactly q planes are unfinished, and one bit before it q + 1.
-  pub last_bit_any : (q : ℕ) (m : List Bool) → q ≤ n → AllRead k L n q m → unfinished (take (bits_through k L n q m) m) ≡ q
-  last_bit_any q m h a = let E = finished_has q m (read_finished q m a) in ap unfinished (has_first q m E) ∙ has_last q m h E
-
-  -- Then nothing of the next plane is settled.
-  pub last_bit_place : L < k → (q : ℕ) (m : List Bool) → q ≤ n → AllRead k L n q m → (decode_of k L n (take (bits_through k L n q m) m)).place ≡ 0
-  last_bit_place levels q m h a = let E = finished_has q m (read_finished q m a) in ap (λ l. (decode_of k L n l).place) (has_first q m E) ∙ has_none levels q m h E
-
-  pub before_last_bit_any : (q : ℕ) (m : List Bool) → q < n → AllRead k L n q m → unfinished (take (bits_through k L n q m - 1) m) ≡ suc q
-  before_last_bit_any q m h a =
-      let c = bits_through k L n q m in
-      let b = bits_through k L n (suc q) m in
-      let above = finished_read (suc q) m (omega (arith, read_finished q m a)) in
-      let less : b < c = leb-false c b (sym (cut_finished q m a b) ∙ lt-leb (unfinished (take b m)) q (omega (arith, last_bit_any (suc q) m h above))) in
-      omega (
-        arith,
-        leb-true (unfinished (take (c - 1) m)) (suc q) (cut_finished (suc q) m above (c - 1) ∙ le-leb b (c - 1) (omega arith)),
-        leb-false (unfinished (take (c - 1) m)) q (cut_finished q m a (c - 1) ∙ lt-leb c (c - 1) (omega arith)),
-      )
-
   -- there are at most n
   pub unfinished_most : (l : List Bool) → unfinished l ≤ n
   unfolding decode_of
   unfinished_most l = count_most (depth k L) L n start (tape l false 0)
-
-  -- So p is n less the planes whose every bit has been read, whatever bits make l whole.
-  pub unfinished_true : (l r : List Bool) → AllRead k L n 0 (l ++ r) → unfinished l ≡ n - planes_read k L n (l ++ r) (length l)
-  unfolding decode_of
-  unfinished_true l r a =
-      let whole : (q : ℕ) → AllRead k L n q (l ++ r) = λ q. finished_read q (l ++ r) (omega (arith, read_finished 0 (l ++ r) a)) in
-      let e : count_below n (leb (unfinished l)) ≡ planes_read k L n (l ++ r) (length l) = λ i. count_below n (λ q. first_part q l r (whole q) i) in
-      omega (arith, e, count_from (unfinished l) n, unfinished_most l)
