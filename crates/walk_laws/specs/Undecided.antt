@@ -180,7 +180,7 @@ undecided_last due k x apart = record { dry = λ m z. refl; ways = go }
 
 -- ---- the walk
 -- a test asks for a bit, or is known to be open
-pub undecided_tested : (p : ℕ) (xs : List ℤ) (f : Decodes (List ℤ)) → 0 < length xs → Undecided xs f → Undecided xs (Decoder.then (test_set Decoder p xs) (opened Decoder xs f))
+undecided_tested : (p : ℕ) (xs : List ℤ) (f : Decodes (List ℤ)) → 0 < length xs → Undecided xs f → Undecided xs (Decoder.then (test_set Decoder p xs) (opened Decoder xs f))
 undecided_tested p xs f there U = go (reaches (2 ^ suc p) xs) refl
   where
     go : (b : Bool) → reaches (2 ^ suc p) xs ≡ b → Undecided xs (Decoder.then (test_set Decoder p xs) (opened Decoder xs f))
