@@ -2,5 +2,4 @@
 pub mod Prime
 pub mod Sums
 pub mod Damage
-pub mod Same
 pub mod Caught

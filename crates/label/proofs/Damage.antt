@@ -1,6 +1,6 @@
 -- What is shown of a damaged record. A block that the check catches ends the record there: what is decoded and shown is what is
 -- decoded and shown of the record cut before it, of which demand 3 speaks where that is one coding's; and if it is block 0, nothing is.
--- check_laws/specs/Caught.antt says what is caught: one or two bytes changed, two unequal bytes exchanged.
+-- check_laws/proofs/Caught.antt says what is caught: one or two bytes changed, two unequal bytes exchanged.
 use mathlib.Core.Path.{◌≡◌, refl, ap}
 use mathlib.Core.List.{List}
 use Prim.Native.Nat.{ℕ, ◌*◌, ◌<◌}
@@ -11,7 +11,8 @@ use Rattle.paper.specs.Block.{block_bytes}
 use Rattle.paper.specs.Jobs.{Read, read_refused, sizes_refusal, Decoding, decoding_refusal, decoding_job, Inverse, inverse_refusal, inverse_job, display_refusal, display_job, thumbnail_refusal, thumbnail_job}
 use Rattle.check_laws.specs.Damage.{Caught}
 use Rattle.record_laws.specs.Damaged.{with_block}
-use Rattle.record_laws.specs.ReadDamaged.{Comes, read_cut_there, first_damaged, later_damaged}
+use Rattle.record_laws.specs.ReadDamaged.{Comes, read_cut_there}
+use Rattle.record_laws.proofs.ReadDamaged.{first_damaged, later_damaged}
 use Rattle.label.specs.Journey.{Seen, seen_by, out_of_record, softer_out_of_record, thumbnail_out_of_record}
 
 -- block i of a record, to which the reading job comes, replaced by one that the check catches

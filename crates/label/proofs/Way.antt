@@ -21,7 +21,7 @@ use Rattle.sizes.proofs.Refusals.{sizes_passed, done_is}
 use Rattle.sizes.proofs.Numbers.{count_in}
 use Rattle.bits.proofs.Packing.{bits_take, bits_laid, packed_length}
 use Rattle.record_laws.specs.ReadBack.{bits_in, bits_read, read_back}
-use Rattle.record_laws.specs.BothJobs.{read_written}
+use Rattle.record_laws.proofs.BothJobs.{read_written}
 use Rattle.walk_laws.proofs.Bound.{coding_bound}
 
 length_laid : (l : List Bool) (s : List ℕ) → length (laid l s) ≡ length s

@@ -112,7 +112,7 @@ pub fn read(blocks: &[u8], label: &[u8], room: &mut [u8]) -> Kept
 }
 
 // Judges a single block, of either edition: 0, or 6, 8 or 9. A block whose checks were right, with one or two bytes changed in
-// place or two unequal ones exchanged, is answered 8 (check_laws/specs/Caught.antt).
+// place or two unequal ones exchanged, is answered 8 (check_laws/proofs/Caught.antt).
 pub fn check(block: &[u8]) -> u32
     ensures { result ≡ check_job block.now }
 {

@@ -1,9 +1,8 @@
--- The writing job and the reading job together: what one wrote, the other gives back.
-use Rattle.std.specs.Prelude.{◌≡◌, true, ◌&&◌, List, ℕ, ◌*◌, ◌/◌, ◌≤◌, min, take}
-use Rattle.std.proofs.Common.{sym, ap, ◌∙◌, arith, length-take-le}
+-- The writing job and the reading job together: what one wrote, the other gives back (proofs/BothJobs.antt).
+use Rattle.std.specs.Prelude.{◌≡◌, true, ◌&&◌, List, ℕ, ◌*◌, ◌≤◌, take}
+use Rattle.std.proofs.Common.{sym, ◌∙◌, arith, length-take-le}
 use Rattle.std.proofs.Math.Dec.{leb}
 use Rattle.std.proofs.Math.ListN.{length}
-use Rattle.std.proofs.lemmas.List.{take-append-le}
 use borrow.Author.Tests.{leb-true}
 use Rattle.sizes.proofs.Ranges.{both_first, both_second, size_high, planes_few, most_bits_grow}
 use Rattle.sizes.proofs.Refusals.{row_passed, rows_left, size_accepted, levels_accepted, sizes_left, done_is}
@@ -13,10 +12,9 @@ use Rattle.paper.specs.Lists.{over}
 use Rattle.paper.specs.Bits.{bits}
 use Rattle.paper.specs.Block.{is_label, Origin, edition_in, origin_in, block_bytes, start_of, payload_bits, numbered_blocks}
 use Rattle.paper.specs.Record.{blocks_for, record_of}
-use Rattle.paper.specs.Jobs.{sizes_refusal, room_bytes, writing_refusal, writing_job, reading_job}
+use Rattle.paper.specs.Jobs.{sizes_refusal, writing_refusal, writing_job}
 use Rattle.block.proofs.Editions.{start_most, origin_ignored, named_none}
 use Rattle.record_laws.specs.Written.{Writable, same_record}
-use Rattle.record_laws.specs.ReadBack.{read_back, length_record, read_cut}
 
 -- the most bits of a coding are fewer than numbered blocks hold
 pub most_bits_lem : (e k n : ℕ) → size_in k ≡ true → planes_in n ≡ true → most_bits k n ≤ payload_bits (start_of e) * numbered_blocks
@@ -78,17 +76,6 @@ module _ (k L n : ℕ) (o : Origin) (label bytes : List ℕ) (b : ℕ) (room : L
   pub room_written : writing_job k L n o label bytes b room ≡ record { refusal = 0; blocks = blocks_for o.edition b; room = over (record_of o k L n label (take b (bits bytes))) room }
   unfolding writing_job
   room_written = done_is _ _ _ passed
-
-  -- any first part of it with a whole block, read with its label into enough room, gives back what was written, as much as its whole blocks hold
-  pub read_written : (m : ℕ) (lent : List ℕ) → block_bytes ≤ m → m ≤ block_bytes * blocks_for o.edition b → room_bytes * (m / block_bytes) ≤ length lent
-      → reading_job (take m (writing_job k L n o label bytes b room).room) label lent ≡ read_back o k L n (take b (bits bytes)) lent (m / block_bytes)
-  read_written m lent h g r =
-      let l = take b (bits bytes) in
-      let whole : length (record_of o k L n label l) ≡ block_bytes * blocks_for o.edition b = length_record o k L n label l record_writable ∙ ap (λ c. block_bytes * blocks_for o.edition c) bits_given in
-      let front : take m (over (record_of o k L n label l) room) ≡ take m (record_of o k L n label l) = take-append-le m (record_of o k L n label l) _ (omega arith) in
-      let blocks : min (m / block_bytes) (blocks_for o.edition (length l)) ≡ m / block_bytes = omega (arith, ap (blocks_for o.edition) bits_given) in
-      ap (λ w. reading_job (take m w.room) label lent) room_written ∙ ap (λ s. reading_job s label lent) front
-      ∙ read_cut o k L n label l record_writable m lent h (omega arith) ∙ ap (read_back o k L n l lent) blocks
 
 -- In edition 1 arm and mount are ignored, whatever they are: refused or not, the job is the same.
 pub first_edition_ignores : (o p : Origin) → o.edition ≡ 1 → p.edition ≡ 1 → (k L n : ℕ) (label bytes : List ℕ) (b : ℕ) (room : List ℕ) → writing_job k L n o label bytes b room ≡ writing_job k L n p label bytes b room

@@ -1,4 +1,5 @@
 -- Which numbers a run and the reading job can end with: whole blocks have 512 bytes, so that no block of a run is refused by 6.
+-- What the run and the reading job end with is in proofs/Ended.antt.
 use Rattle.std.specs.Prelude.{◌≡◌, Bool, ◌&&◌, List, [], ◌∷◌, ◌⊎◌, drop}
 use Rattle.std.proofs.Math.Path.{refl, subst}
 use Rattle.std.proofs.Common.{sym, ◌∙◌, arith, length-take, length-drop}
@@ -8,9 +9,9 @@ use Prim.Native.Nat.{ℕ, zero, suc, ◌+◌, ◌*◌, ◌<◌, ◌≤◌}
 use Rattle.std.proofs.Math.Dec.{leb}
 use Rattle.std.proofs.Math.ListN.{length}
 use borrow.Author.Tests.{eq-eqb, leb-true}
-use Rattle.paper.specs.Sizes.{unless, judged}
+use Rattle.paper.specs.Sizes.{unless}
 use Rattle.paper.specs.Block.{is_label, block_bytes, checks_right, contents_right, block_refusal}
-use Rattle.paper.specs.Record.{whole_blocks, block_at, said, in_turn, turn_row, turn_refusal, refusal_at, is_full, Run, run_from, start_in, run_of}
+use Rattle.paper.specs.Record.{whole_blocks, block_at, said, in_turn, turn_row, turn_refusal, refusal_at, is_full, Run, run_from, start_in}
 use Rattle.paper.specs.Jobs.{Read, room_bytes, lent_refusal, read_refused, reading_refusal, reading_job}
 use Rattle.sizes.proofs.Ranges.{both_first}
 use Rattle.sizes.proofs.Refusals.{refusal_is}
@@ -44,7 +45,7 @@ module _ (s label : List ℕ) where
   pub refusal_at_0_8_9_10 : (i : ℕ) → i < whole_blocks s → Ended (refusal_at s label i)
   refusal_at_0_8_9_10 i h = turn_refusal_0_8_9_10 (said (block_at s 0)) label i (block_at s i) (whole_block s i h)
 
-  ended_from : (left i : ℕ) → i + left ≤ whole_blocks s → RunEnded (run_from (start_in s) (refusal_at s label) s left i)
+  pub ended_from : (left i : ℕ) → i + left ≤ whole_blocks s → RunEnded (run_from (start_in s) (refusal_at s label) s left i)
   unfolding run_from
   ended_from zero i h = inl refl
   ended_from (suc left) i h = go (refusal_at s label i) (is_full (start_in s) (block_at s i)) (refusal_at_0_8_9_10 i (omega arith)) (ended_from left (suc i) (omega arith))
@@ -58,18 +59,7 @@ module _ (s label : List ℕ) where
       go zero false e later = e
       go (suc r) f e later = e
 
-  pub run_ended_0_8_9_10 : Ended (run_of s label).ended
-  run_ended_0_8_9_10 = ended_from (whole_blocks s) 0 (omega arith)
-
 module _ (s label room : List ℕ) where
-  ended_is : (r : ℕ) (done : Read) → Ended done.ended → Ended (judged r (read_refused room) done).ended
-  ended_is zero done e = e
-  ended_is (suc r) done e = inl refl
-
-  pub read_ended_0_8_9_10 : Ended (reading_job s label room).ended
-  unfolding reading_job
-  read_ended_0_8_9_10 = ended_is (reading_refusal s label room) _ (run_ended_0_8_9_10 s label)
-
   pub read_refusal_0_6_7_8_9_10 : OneOf (0 ∷ 6 ∷ 7 ∷ 8 ∷ 9 ∷ 10 ∷ []) (reading_job s label room).refusal
   unfolding reading_job reading_refusal lent_refusal
   read_refusal_0_6_7_8_9_10 =

@@ -1,23 +1,20 @@
 -- What the reading job gives of a record of which one block is so damaged that the check catches it: of block 0 refusal 8, of another
--- all that the blocks before it hold, as of the record cut there, and 8 as the number that ended the run.
-use Rattle.std.specs.Prelude.{◌≡◌, refl, true, ◌&&◌, List, leb, length}
+-- all that the blocks before it hold, as of the record cut there, and 8 as the number that ended the run (proofs/ReadDamaged.antt).
+use Rattle.std.specs.Prelude.{◌≡◌, true, List, length}
 use Rattle.std.proofs.Common.{sym, ◌∙◌, arith, get_or-take}
 use Rattle.std.proofs.Math.Path.{ap}
 use Prim.Native.Nat.{ℕ, zero, suc, ◌+◌, ◌*◌, ◌<◌, ◌≤◌}
 use Rattle.std.proofs.Math.ListN.{take}
-use borrow.Author.Tests.{le-leb, leb-true}
-use Rattle.paper.specs.Sizes.{judged}
+use borrow.Author.Tests.{le-leb}
 use Rattle.paper.specs.Lists.{parts, over}
 use Rattle.paper.specs.Block.{is_label, byte_at, triple_at, block_bytes, payload_bits, edition_of, count_of, named_of, payload_of}
 use Rattle.paper.specs.Record.{whole_blocks, block_at, refusal_at, is_full, start_in, run_of, bits_kept, payload_kept}
 use Rattle.paper.specs.Jobs.{Read, room_bytes, lent_refusal, reading_refusal, read_run, read_refused, reading_job}
-use Rattle.sizes.proofs.Ranges.{both_second}
-use Rattle.sizes.proofs.Refusals.{row_passed, rows_left, done_is}
+use Rattle.sizes.proofs.Refusals.{done_is}
 use Rattle.list_laws.specs.Joined.{joined_same}
-use Rattle.check_laws.specs.Damage.{Caught}
 use Rattle.record_laws.specs.Kept.{whole_kept}
-use Rattle.record_laws.specs.Turn.{named_of_0, kept_within}
-use Rattle.record_laws.specs.Damaged.{with_block, Reached, kept_reached, front_long, front_same, new_length, blocks_before, same_turn, same_start, refused_there, as_before, ends_as_8}
+use Rattle.record_laws.specs.Turn.{named_of_0}
+use Rattle.record_laws.specs.Damaged.{Reached, front_long, front_same, same_turn, same_start}
 
 -- what is read of the first i blocks of s, and the number that ended the run
 abbrev pub read_first : List ℕ → List ℕ → ℕ → ℕ → Read
@@ -46,7 +43,7 @@ module _ (s t : List ℕ) (i : ℕ) (some : 0 < i) (same : (j : ℕ) → j < i �
   same_named : named_of t ≡ named_of s
   same_named = sym (named_of_0 t) ∙ ap named_of (same 0 some) ∙ named_of_0 s
 
-  same_read : (room : List ℕ) (ended : ℕ) → read_first t room i ended ≡ read_first s room i ended
+  pub same_read : (room : List ℕ) (ended : ℕ) → read_first t room i ended ≡ read_first s room i ended
   same_read room ended = λ z. record {
     refusal = 0;
     k = same_byte 1 (omega arith) z;
@@ -68,26 +65,9 @@ pub record Comes (s label room : List ℕ) (i : ℕ) : Type 0 where
   pub within : i < whole_blocks s
   pub reached : Reached s label i
 
--- so it does to a block that it kept
-pub kept_comes : (s label room : List ℕ) (i : ℕ) → i < (reading_job s label room).blocks → Comes s label room i
-unfolding reading_job reading_refusal lent_refusal
-kept_comes s label room i kept = go (reading_refusal s label room) refl kept
-  where
-    go : (r : ℕ) → reading_refusal s label room ≡ r → i < (judged r (read_refused room) (read_run (edition_of s) s room (run_of s label))).blocks → Comes s label room i
-    go zero passed h =
-        let long = leb block_bytes (length s) in
-        let fits = leb (room_bytes * whole_blocks s) (length room) in
-        record {
-          fits = leb-true _ _ (both_second long fits (row_passed 5 (long && fits) _ passed));
-          labelled = row_passed 6 (is_label label) _ (rows_left 5 (long && fits) _ passed);
-          within = omega (arith, h, kept_within s label);
-          reached = kept_reached s label i h;
-        }
-    go (suc r) passed h = absurd (omega arith)
-
 module _ (s label room : List ℕ) (i : ℕ) (comes : Comes s label room i) where
   -- bytes with a whole block, and no longer than s, are refused for block 0 or not at all
-  by_block_0 : (t : List ℕ) → block_bytes ≤ length t → length t ≤ length s → reading_refusal t label room ≡ refusal_at t label 0
+  pub by_block_0 : (t : List ℕ) → block_bytes ≤ length t → length t ≤ length s → reading_refusal t label room ≡ refusal_at t label 0
   unfolding reading_refusal lent_refusal
   by_block_0 t h k = rw (le-leb block_bytes (length t) h, le-leb (room_bytes * whole_blocks t) (length room) (omega (arith, comes.fits)), comes.labelled)
 
@@ -114,26 +94,3 @@ module _ (s label room : List ℕ) (i : ℕ) (comes : Comes s label room i) wher
         done_is (reading_refusal cut label room) (read_refused room) _ (by_block_0 cut (omega (arith, cut_long)) (omega (arith, cut_long, comes.within)) ∙ cut_turn 0 some)
         ∙ ap (read_run (edition_of cut) cut room) cut_run
         ∙ same_read s cut i some cut_same room 0
-
-  -- ---- block i damaged
-  module _ (block : List ℕ) (caught : Caught block) where
-    abbrev damaged : List ℕ
-    damaged = with_block i block s
-
-    by_first : reading_refusal damaged label room ≡ refusal_at damaged label 0
-    by_first =
-        let same : length damaged ≡ length s = new_length s i comes.within block caught.long in
-        by_block_0 damaged (omega (arith, comes.within)) (omega arith)
-
-    pub first_damaged : i ≡ 0 → reading_job damaged label room ≡ read_refused room 8
-    unfolding reading_job
-    first_damaged e =
-        let eight = by_first ∙ ap (refusal_at damaged label) (sym e) ∙ refused_there s i comes.within block caught label in
-        ap (λ r. judged r (read_refused room) (read_run (edition_of damaged) damaged room (run_of damaged label))) eight
-
-    pub later_damaged : 0 < i → reading_job damaged label room ≡ read_first s room i 8
-    unfolding reading_job
-    later_damaged some =
-        done_is (reading_refusal damaged label room) (read_refused room) _ (by_first ∙ as_before s i comes.within block caught label 0 some ∙ comes.reached.passes 0 some)
-        ∙ ap (read_run (edition_of damaged) damaged room) (ends_as_8 s i comes.within block caught label comes.reached)
-        ∙ same_read s damaged i some (blocks_before s i comes.within block caught.long) room 8

@@ -11,7 +11,8 @@ use Rattle.std.proofs.lemmas.List.{set-get_or, take-set-le}
 use borrow.Author.Tests.{eqb-true}
 use Rattle.paper.specs.Block.{block_bytes, checks_start, modulus, plain_sum, weighed_sum, check_a, check_b, byte_at, pair_at, checks_right}
 use Rattle.list_laws.specs.Parts.{four_places}
-use Rattle.check_laws.specs.Prime.{in_a, in_b, moved_back}
+use Rattle.check_laws.specs.Prime.{in_a, in_b}
+use Rattle.check_laws.proofs.Prime.{moved_back}
 use Rattle.check_laws.specs.Sums.{sum_a, sum_b, a_moved, b_moved}
 use Rattle.check_laws.specs.Damage.{Passes}
 
