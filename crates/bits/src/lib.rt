@@ -29,7 +29,7 @@ pub fn bit_at(s: &[u8], at: usize) -> bool
     (s[i] >> low) % 2 == 1
 }
 
-#[derive(Drop)]
+#[derive(Clone, Copy)]
 pub struct Answer {
     pub one: bool,
     pub at: usize,

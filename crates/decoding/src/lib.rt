@@ -73,7 +73,7 @@ fn settle(k: u32, levels: u32, n: u32, numbers: &mut [i32], bytes: &[u8], b: usi
 }
 
 #[repr(C)]
-#[derive(Drop)]
+#[derive(Clone, Copy)]
 pub struct Settled {
     pub refusal: u32,
     pub unfinished: u32,

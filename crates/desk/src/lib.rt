@@ -21,7 +21,7 @@ pub const RECORD_BYTES: usize = block::BLOCK * MOST_BLOCKS;
 pub const PAYLOAD_ROOM: usize = block::ROOM * MOST_BLOCKS;
 
 // What is wrong with a PGM, and its picture's k.
-#[derive(Drop)]
+#[derive(Clone, Copy)]
 pub struct Found {
     pub fault: u32,
     pub k: u32,

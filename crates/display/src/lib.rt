@@ -75,7 +75,7 @@ fn soften(unfinished: u32, place: usize, numbers: &[i32], out: &mut [i32])
     let mut i = 0;
     while i < out.len() {
         let z = places::z_place(i);
-        let x = places::number_at(numbers, places::z_place(i));
+        let x = places::number_at(numbers, z);
         places::set_number(out, z, moved_up(x, unread_at(unfinished, place, i)));
         i += 1;
     }

@@ -17,7 +17,7 @@ use std::rt::HostRuntime;
 const INPUT_BYTES: usize = 12288;
 
 // What the record is to say of where the picture was shot. Edition 1 says nothing of it.
-#[derive(Drop)]
+#[derive(Clone, Copy)]
 struct Origin {
     edition: u32,
     arm: u32,

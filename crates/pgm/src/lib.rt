@@ -8,7 +8,7 @@ ghost use Rattle.pgm.specs.Header.{is_space, is_line_end, is_digit, is_passed, i
 pub const MOST_NUMBER: u32 = 99999999;
 
 // A number of the header, and the place behind it: 0 if the number is missing.
-#[derive(Drop)]
+#[derive(Clone, Copy)]
 pub struct Number {
     pub value: u32,
     pub next: usize,

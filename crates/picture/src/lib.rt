@@ -24,7 +24,7 @@ pub fn lower(k: u32, picture: &[u8], xs: &mut [i32])
     let mut i = 0;
     while i < xs.len() {
         let z = places::z_place(i);
-        let g = places::grey_at(picture, places::from_z(k, places::z_place(i)));
+        let g = places::grey_at(picture, places::from_z(k, z));
         places::set_number(xs, z, lower_grey(g));
         i += 1;
     }
@@ -38,7 +38,7 @@ pub fn copy(xs: &[i32], out: &mut [i32])
     let mut i = 0;
     while i < out.len() {
         let z = places::z_place(i);
-        places::set_number(out, z, places::number_at(xs, places::z_place(i)));
+        places::set_number(out, z, places::number_at(xs, z));
         i += 1;
     }
 }
@@ -51,7 +51,7 @@ pub fn raise(xs: &mut [i32])
     let mut i = 0;
     while i < xs.len() {
         let z = places::z_place(i);
-        let x = places::number_at(xs, places::z_place(i));
+        let x = places::number_at(xs, z);
         places::set_number(xs, z, x + 128);
         i += 1;
     }
@@ -80,7 +80,7 @@ pub fn set_picture(k: u32, greys: &[i32], picture: &mut [u8])
     let mut i = 0;
     while i < picture.len() {
         let p = places::raster_place(i);
-        let x = places::number_at(greys, places::to_z(k, places::raster_place(i)));
+        let x = places::number_at(greys, places::to_z(k, p));
         places::set_grey(picture, p, grey(x));
         i += 1;
     }

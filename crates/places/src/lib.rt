@@ -8,11 +8,11 @@ ghost use Rattle.paper.specs.Lists.{at};
 ghost use Rattle.paper.specs.Places.{interleaved, column_of, row_of, z_of, raster_of};
 
 // A place counted row by row.
-#[derive(Drop)]
+#[derive(Clone, Copy)]
 pub struct Raster(usize);
 
 // A place counted in Z order.
-#[derive(Drop)]
+#[derive(Clone, Copy)]
 pub struct ZPlace(usize);
 
 // Raster place i, for one who counts them all.

@@ -49,7 +49,7 @@ fn read_plane(numbers: &mut [i32], first: usize, p: u32, bytes: &[u8], b: usize,
     read_rest(&mut numbers[first..], first, p, bytes, b, a)
 }
 
-#[derive(Drop)]
+#[derive(Clone, Copy)]
 pub struct Done {
     pub unfinished: u32,
     pub here: Here,

@@ -103,7 +103,7 @@ fn is_full(block: &[u8], start: usize) -> bool
     fields::pair_at(block, 14) == 8 * (CHECKS - start)
 }
 
-#[derive(Drop)]
+#[derive(Clone, Copy)]
 pub struct Run {
     pub kept: usize,
     pub ended: u32,

@@ -107,7 +107,7 @@ fn heading(k: u32, levels: u32, n: u32, edition: u32, arm: u32, mount: u32) -> H
 }
 
 #[repr(C)]
-#[derive(Drop)]
+#[derive(Clone, Copy)]
 pub struct Blocks {
     pub refusal: u32,
     pub blocks: usize,

@@ -5,7 +5,7 @@ ghost use Rattle.std.specs.Prelude.{◌≡◌, true, ◌^◌, ◌<◌};
 ghost use Rattle.paper.specs.Sizes.{most_planes, numbers_in};
 ghost use Rattle.scan.specs.Seen.{seen_of};
 
-#[derive(Drop)]
+#[derive(Clone, Copy)]
 pub enum Seen {
     Known,
     New,

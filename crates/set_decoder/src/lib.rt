@@ -11,7 +11,7 @@ ghost use Rattle.set_decoder.specs.Walked.{Source, Walked, behind_bit};
 use scan::Seen;
 
 // Where the walk is: the next of the first b bits, b + 1 once one was missed, and the lowest place of the plane that is not settled.
-#[derive(Drop)]
+#[derive(Clone, Copy)]
 pub struct Here {
     pub at: usize,
     pub place: usize,
@@ -31,7 +31,7 @@ fn behind_bit(b: usize, at: usize, place: usize, places: usize) -> Here
     }
 }
 
-#[derive(Drop)]
+#[derive(Clone, Copy)]
 pub struct Tested {
     pub open: bool,
     pub here: Here,
@@ -75,7 +75,7 @@ fn begun(below: bool, t: u32) -> i32
     if below { 0 - v } else { v }
 }
 
-#[derive(Drop)]
+#[derive(Clone, Copy)]
 pub struct Number {
     pub x: i32,
     pub here: Here,

@@ -5,7 +5,7 @@
 ghost use Rattle.std.specs.Prelude.{◌≡◌, ◌+◌, ◌*◌, ◌^◌, ◌<◌, ◌≤◌, length};
 ghost use Rattle.bits.specs.Bits.{next_at};
 
-#[derive(Drop)]
+#[derive(Clone, Copy)]
 pub struct BitSource<'a> {
     pub bytes: &'a [u8],
     pub count: usize,

@@ -11,7 +11,7 @@ ghost use Rattle.levels.specs.Level.{Fitting};
 
 // What the job forward answers: why it refused, or 0, and the plane count n.
 #[repr(C)]
-#[derive(Drop)]
+#[derive(Clone, Copy)]
 pub struct Planes {
     pub refusal: u32,
     pub n: u32,
