@@ -24,12 +24,12 @@ pub loop-i-init : goal.loop-i-init
 loop-i-init c = (omega arith, c.requires.out_len, filled_none _ _ _)
 
 pub number_at-x-requires : goal.number_at-x-requires
-number_at-x-requires c = omega (arith, c.z_place.ensures)
+number_at-x-requires c = omega (arith, c.z_place-z.ensures)
 
 pub moved_up-requires : goal.moved_up-requires
 moved_up-requires c =
     let a = c.args in
-    record { within = rw (as_stored c.args.numbers.now (record { sfits = c.number_at-x.type_inv }) c.number_at-x.ensures c.z_place.ensures) (in_each a.numbers.now c.requires.numbers_value c.loop-i.i); u_le_most_planes = omega (arith, c.unread_at.ensures, unread_most a.unfinished a.place c.loop-i.i) }
+    record { within = rw (as_stored c.args.numbers.now (record { sfits = c.number_at-x.type_inv }) c.number_at-x.ensures c.z_place-z.ensures) (in_each a.numbers.now c.requires.numbers_value c.loop-i.i); u_le_most_planes = omega (arith, c.unread_at.ensures, unread_most a.unfinished a.place c.loop-i.i) }
 
 pub set_number-requires : goal.set_number-requires
 set_number-requires c = omega (arith, c.z_place-z.ensures)
@@ -41,7 +41,7 @@ loop-i-preserved c =
       rw c.set_number.ensures (simp length-set c.loop-i.invariant.1),
       rw (c.set_number.ensures, c.z_place-z.ensures)
           (filled_more (pos 0) (λ i. moved_up (half_of (unread_at a.unfinished a.place i)) (at a.numbers.now i)) c.loop-i.i c.loop-i.out _ (omega arith) c.loop-i.invariant.2
-          (to_z-of_z {w = w32} (record { sfits = c.moved_up.type_inv }) ∙ c.moved_up.ensures ∙ rw (as_stored c.args.numbers.now (record { sfits = c.number_at-x.type_inv }) c.number_at-x.ensures c.z_place.ensures, c.unread_at.ensures))),
+          (to_z-of_z {w = w32} (record { sfits = c.moved_up.type_inv }) ∙ c.moved_up.ensures ∙ rw (as_stored c.args.numbers.now (record { sfits = c.number_at-x.type_inv }) c.number_at-x.ensures c.z_place-z.ensures, c.unread_at.ensures))),
     )
 
 pub returns : goal.returns

@@ -14,7 +14,7 @@ pub loop-i-init : goal.loop-i-init
 loop-i-init c = (omega arith, c.requires, filled_none _ _ _)
 
 pub number_at-requires : goal.number_at-requires
-number_at-requires c = omega (arith, c.z_place.ensures)
+number_at-requires c = omega (arith, c.z_place-z.ensures)
 
 pub set_number-requires : goal.set_number-requires
 set_number-requires c = omega (arith, c.z_place-z.ensures)
@@ -24,7 +24,7 @@ loop-i-preserved c =
     let xs = c.args.xs.now in (
       omega arith,
       rw c.set_number.ensures (simp length-set c.loop-i.invariant.1),
-      rw (c.set_number.ensures, c.z_place-z.ensures) (filled_more (pos 0) (at xs) c.loop-i.i c.loop-i.out _ (omega arith) c.loop-i.invariant.2 (to_z-of_z {w = w32} (record { sfits = c.number_at.type_inv }) ∙ c.number_at.ensures ∙ ap (at xs) c.z_place.ensures)),
+      rw (c.set_number.ensures, c.z_place-z.ensures) (filled_more (pos 0) (at xs) c.loop-i.i c.loop-i.out _ (omega arith) c.loop-i.invariant.2 (to_z-of_z {w = w32} (record { sfits = c.number_at.type_inv }) ∙ c.number_at.ensures ∙ ap (at xs) c.z_place-z.ensures)),
     )
 
 pub returns : goal.returns

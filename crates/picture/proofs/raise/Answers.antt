@@ -22,10 +22,10 @@ pub loop-i-init : goal.loop-i-init
 loop-i-init c = (omega arith, refl, filled_none _ _ _, λ z h. refl)
 
 pub number_at-x-requires : goal.number_at-x-requires
-number_at-x-requires c = omega (arith, c.z_place.ensures)
+number_at-x-requires c = omega (arith, c.z_place-z.ensures)
 
 pub overflow_add-x : goal.overflow_add-x
-overflow_add-x c = rw (as_it_was _ c.args.xs.now c.loop-i.xs _ c.loop-i.i (record { sfits = c.number_at-x.type_inv }) c.number_at-x.ensures c.z_place.ensures (c.loop-i.invariant.3 c.loop-i.i (omega arith))) (raise_fits (c.requires c.loop-i.i))
+overflow_add-x c = rw (as_it_was _ c.args.xs.now c.loop-i.xs _ c.loop-i.i (record { sfits = c.number_at-x.type_inv }) c.number_at-x.ensures c.z_place-z.ensures (c.loop-i.invariant.3 c.loop-i.i (omega arith))) (raise_fits (c.requires c.loop-i.i))
 
 pub set_number-requires : goal.set_number-requires
 set_number-requires c = omega (arith, c.z_place-z.ensures)
@@ -34,7 +34,7 @@ pub loop-i-preserved : goal.loop-i-preserved
 loop-i-preserved c =
     let xs = c.args.xs.now in
     let i = c.loop-i.i in
-    let e = as_it_was _ xs c.loop-i.xs _ i (record { sfits = c.number_at-x.type_inv }) c.number_at-x.ensures c.z_place.ensures (c.loop-i.invariant.3 i (omega arith)) in (
+    let e = as_it_was _ xs c.loop-i.xs _ i (record { sfits = c.number_at-x.type_inv }) c.number_at-x.ensures c.z_place-z.ensures (c.loop-i.invariant.3 i (omega arith)) in (
       rw c.set_number.ensures (simp length-set (omega arith)),
       rw c.set_number.ensures (simp length-set c.loop-i.invariant.1),
       rw (c.set_number.ensures, c.z_place-z.ensures) (filled_more (pos 0) (λ z. at xs z +ℤ pos 128) i c.loop-i.xs _ (omega arith) c.loop-i.invariant.2 (simp e (to_z-of_z (raise_fits (c.requires i))))),

@@ -17,7 +17,7 @@ pub loop-i-init : goal.loop-i-init
 loop-i-init c = (omega arith, search rules, filled_none _ _ _)
 
 pub number_at-x-requires : goal.number_at-x-requires
-number_at-x-requires c = omega (arith, c.to_z.ensures, z_below c.args.k c.raster_place.result.0)
+number_at-x-requires c = omega (arith, c.to_z.ensures, z_below c.args.k c.raster_place-p.result.0)
 
 pub set_grey-requires : goal.set_grey-requires
 set_grey-requires c = omega (arith, c.raster_place-p.ensures)
@@ -25,7 +25,7 @@ set_grey-requires c = omega (arith, c.raster_place-p.ensures)
 pub loop-i-preserved : goal.loop-i-preserved
 loop-i-preserved c =
     let a = c.args in
-    let q : c.number_at-x.result ≡ at a.greys.now (z_of a.k c.loop-i.i) = c.number_at-x.ensures ∙ rw (c.to_z.ensures, c.raster_place.ensures) in (
+    let q : c.number_at-x.result ≡ at a.greys.now (z_of a.k c.loop-i.i) = c.number_at-x.ensures ∙ rw (c.to_z.ensures, c.raster_place-p.ensures) in (
       omega arith,
       rw c.set_grey.ensures (simp length-set c.loop-i.invariant.1),
       rw (c.set_grey.ensures, c.raster_place-p.ensures) (filled_more 0 (λ p. grey (at a.greys.now (z_of a.k p))) c.loop-i.i c.loop-i.picture _ (omega arith) c.loop-i.invariant.2 (c.grey.ensures ∙ ap grey (to_z-of_z {w = w32} (record { sfits = c.number_at-x.type_inv }) ∙ q))),
