@@ -21,15 +21,13 @@ pub returns-then-b-most_bits : goal.returns-then-b-most_bits
 returns-then-b-most_bits c = second_fails _ (sym c.lends.ensures ∙ not-false _ c.if-not-lends.false-raw) (lt-leb c.args.b (most_bits c.args.k c.args.n) (omega arith))
 
 -- b is within the bound, and so within what numbered blocks hold
-few : (c : goal.Else-b-most_bits) → c.args.b ≤ payload_bits (start_of c.args.edition) * numbered_blocks
-few c =
-    omega (arith, most_bits_lem c.args.edition c.args.k c.args.n c.requires.k_value c.requires.n_value)
-
 pub blocks_for-requires : goal.blocks_for-requires
-blocks_for-requires c = few c
+blocks_for-requires c = omega (arith, most_bits_lem c.args.edition c.args.k c.args.n c.requires.k_value c.requires.n_value)
 
 pub overflow_mul-result : goal.overflow_mul-result
-overflow_mul-result c = omega (arith, c.blocks_for.ensures, blocks_numbered c.args.edition c.args.b (few c.before))
+overflow_mul-result c =
+    let few : c.args.b ≤ payload_bits (start_of c.args.edition) * numbered_blocks = omega (arith, most_bits_lem c.args.edition c.args.k c.args.n c.requires.k_value c.requires.n_value) in
+    omega (arith, c.blocks_for.ensures, blocks_numbered c.args.edition c.args.b few)
 
 pub returns : goal.returns
 returns c = ap (λ (j : ℕ). leb (block_bytes * j) c.args.room) c.blocks_for.ensures ∙ third_decides _ (sym c.lends.ensures ∙ not-false _ c.if-not-lends.false-raw) (le-leb c.args.b (most_bits c.args.k c.args.n) (omega arith))
