@@ -6,10 +6,10 @@ use mathlib.Core.List.{List, [], ◌∷◌}
 use Prim.Native.Nat.{ℕ, zero, suc, ◌+◌, ◌*◌, ◌-◌, ◌/◌, ◌%◌, ◌^◌, ◌<◌, ◌≤◌}
 use native.Mathlib.Omega.{arith}
 use native.Mathlib.Numerals.{add-one}
-use lib.Dec.{ltb, leb, eqb}
+use lib.Dec.{ltb, eqb}
 use lib.ListN.{length, take, drop, get_or, length-take, length-drop, drop_of_length-le}
 use lib.Seq.{drop-cons, get_or-take}
-use borrow.Author.Tests.{lt-ltb, le-ltb, ltb-true, ltb-false, le-leb, lt-leb, eqb-true, eqb-false}
+use borrow.Author.Tests.{lt-ltb, le-ltb, ltb-true, ltb-false}
 use Rattle.paper.specs.Lists.{pick}
 use Rattle.paper.specs.Walk.{bit_of, worth, Due, place_after, Tape, next_bit, is_one, Decoder}
 use Rattle.paper.specs.Bits.{bits}
@@ -42,17 +42,6 @@ bits_at (v ∷ s) (suc (suc (suc (suc (suc (suc (suc (suc k)))))))) h =
 pub bit_is : (s : List ℕ) (at : ℕ) → at < 8 * length s → eqb (get_or s (at / 8) 0 / 2 ^ (7 - at % 8) % 2) 1 ≡ get_or (bits s) at false
 unfolding bit_of
 bit_is s at h = sym (bits_at s at h)
-
--- b bits and whole bytes
-pub lends_exact : (b bytes : ℕ) → b / 8 ≡ bytes → eqb (b % 8) 0 ≡ leb b (8 * bytes)
-lends_exact b bytes e = go (eqb (b % 8) 0) refl
-  where
-    more : (b bytes : ℕ) → b / 8 ≡ bytes → (b % 8 ≡ 0 → ⊥) → 8 * bytes < b
-    more b bytes e f = omega arith
-
-    go : (t : Bool) → eqb (b % 8) 0 ≡ t → t ≡ leb b (8 * bytes)
-    go true t = sym (le-leb b (8 * bytes) (omega (arith, eqb-true (b % 8) 0 t)))
-    go false t = sym (lt-leb b (8 * bytes) (more b bytes e (eqb-false (b % 8) 0 t)))
 
 -- ---- the tape of the first b bits
 pub tape_long : (src : List ℕ) (b : ℕ) → b ≤ 8 * length src → length (take b (bits src)) ≡ b
@@ -161,7 +150,7 @@ pub record Fit (w v k : ℕ) : Type 0 where
   pub same : v / w / 2 * 2 * w ≡ kept k v
   pub is : w ≡ 2 ^ (7 - k)
 
-pub fit : (k v : ℕ) → k < 8 → v < 256 → Fit (1 * 2 ^ (7 - k) % 4294967296) v k
+pub fit : (k v : ℕ) → k < 8 → v < 256 → Fit (1 * 2 ^ (7 - k) % 256) v k
 fit zero v h g = record { some_w = omega arith; part = omega arith; all = omega arith; same = omega arith; is = refl }
 fit (suc zero) v h g = record { some_w = omega arith; part = omega arith; all = omega arith; same = omega arith; is = refl }
 fit (suc (suc zero)) v h g = record { some_w = omega arith; part = omega arith; all = omega arith; same = omega arith; is = refl }

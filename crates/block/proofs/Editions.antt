@@ -7,7 +7,7 @@ use native.Mathlib.Omega.{arith}
 use lib.Dec.{leb}
 use lib.ListN.{length, drop}
 use lib.Seq.{get_or-take, get_or-drop}
-use borrow.Author.Tests.{leb-true, le-leb, lt-leb, eq-eqb, ne_eqb}
+use borrow.Author.Tests.{leb-true, le-leb, eq-eqb, ne_eqb}
 use Rattle.sizes.proofs.Ranges.{both_first, both_second}
 use Rattle.paper.specs.Lists.{pick}
 use Rattle.paper.specs.Block.{Origin, edition_in, unnamed, arm_in, most_mount, origin_in, given_back, header_bytes, start_of, three_bytes, named, byte_at, triple_at, edition_of, named_of, arm_of, mount_of, origin_right}
@@ -66,10 +66,6 @@ module _ (o : Origin) (right : origin_in o ≡ true) where
       go false h = omega (arith, leb-true o.mount most_mount (both_second (arm_in o.arm) (leb o.mount most_mount) h))
 
 -- ---- how the code's tests judge it
-pub edition_low : (e : ℕ) → e < 1 → edition_in e ≡ false
-unfolding edition_in
-edition_low e h = rw (lt-leb 1 e h)
-
 pub edition_high : (e : ℕ) → 1 ≤ e → edition_in e ≡ leb e 2
 unfolding edition_in
 edition_high e h = rw (le-leb 1 e h)
@@ -78,21 +74,9 @@ pub edition_few : (e : ℕ) → edition_in e ≡ true → e ≤ 2
 unfolding edition_in
 edition_few e h = leb-true e 2 (both_second (leb 1 e) (leb e 2) h)
 
-pub arm_low : (arm : ℕ) → arm < 1 → arm_in arm ≡ false
-unfolding arm_in
-arm_low arm h = rw (lt-leb 1 arm h)
-
-pub arm_high : (arm : ℕ) → 1 ≤ arm → arm_in arm ≡ leb arm 2
-unfolding arm_in
-arm_high arm h = rw (le-leb 1 arm h)
-
 pub start_first : (e : ℕ) → e ≡ 1 → start_of e ≡ header_bytes
 unfolding start_of
 start_first e h = rw (eq-eqb e 1 h)
-
-pub start_later : (e : ℕ) → (e ≡ 1 → ⊥) → start_of e ≡ header_bytes + 4
-unfolding start_of
-start_later e h = rw (ne_eqb e 1 h)
 
 -- arm and mount are not looked at in edition 1, and both must be right else
 module _ (o : Origin) where

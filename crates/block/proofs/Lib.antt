@@ -2,4 +2,3 @@
 pub mod Editions
 pub mod Blocks
 pub mod Copies
-pub mod Judging

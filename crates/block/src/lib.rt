@@ -1,12 +1,14 @@
 // A 512-byte block: made by value, and checked where it lies.
 #![tactic(auto)]
 
-ghost use Rattle.std.specs.Prelude.{◌≡◌, ◌++◌, ◌-◌, ◌<◌, ◌≤◌, length, take, drop, replicate};
-ghost use Rattle.paper.specs.Lists.{over};
-ghost use Rattle.paper.specs.Block.{edition_in, arm_in, origin_in, block_bytes, header_bytes, checks_start, start_of, header, named, sealed, payload_bytes, edition_of, checks_right, origin_right, fields_right, contents_right};
+ghost use Rattle.std.specs.Prelude.{◌≡◌, ◌++◌, ◌<◌, ◌≤◌, length, take, drop, IfOk};
+ghost use Rattle.refusals.specs.Numbers.{refusal_of};
+ghost use Rattle.paper.specs.Block.{edition_in, arm_in, origin_in, block_bytes, header_bytes, checks_start, start_of, header, named, sealed, two_bytes, three_bytes, payload_bytes, edition_of, checks_right, origin_right, fields_right, contents_right};
 ghost use Rattle.paper.specs.Record.{made_block};
 ghost use Rattle.paper.specs.Jobs.{check_job};
 ghost use Rattle.block.specs.Origins.{origin_of};
+
+use refusals::Refusal;
 
 // The bytes of a block and of its header, and where its checks stand.
 pub const BLOCK: usize = 512;
@@ -21,28 +23,46 @@ pub const ROOM: usize = CHECKS - HEADER;
 // The largest mount number.
 const MOST_MOUNT: u32 = 16777215;
 
+// Where a record was made, by its edition: the first says nothing, the second the arm and its mount number.
+#[derive(Clone, Copy)]
+pub enum Origin {
+    First,
+    Second { arm: u8, mount: u32 },
+}
+
+impl Origin {
+    // The edition that says so much.
+    pub fn edition(self) -> u8
+        ensures { result ≡ (origin_of self).edition }
+    {
+        match self {
+            Origin::First => 1,
+            Origin::Second { .. } => 2,
+        }
+    }
+}
+
 // What the blocks of a record say of themselves, all but the label.
 #[derive(Clone, Copy)]
 pub struct Heading {
-    pub edition: u8,
+    pub origin: Origin,
     pub k: u8,
     pub levels: u8,
     pub n: u8,
-    pub arm: u8,
-    pub mount: u32,
 }
 
 // There are editions 1 and 2.
+// It takes a number: it judges bytes and arguments that anybody may have written.
+#[tactic(auto, unfolding(paper::specs::Block::edition_in))]
 pub fn edition_in(edition: u32) -> bool
     ensures { result ≡ edition_in edition }
 {
-    if edition < 1 {
-        return false;
-    }
-    edition <= 2
+    (1..=2).contains(&edition)
 }
 
 // Where the payload starts: from edition 2 on behind arm and mount.
+// It takes a number: a block that nobody has judged may have any byte there.
+#[tactic(auto, unfolding(paper::specs::Block::start_of))]
 pub fn payload_start(edition: u32) -> usize
     ensures { result ≡ start_of edition }
 {
@@ -54,92 +74,94 @@ pub fn start_in(block: &[u8]) -> usize
     requires { 0 < length block.now }
     ensures { result ≡ start_of (edition_of block.now) }
 {
-    payload_start(sums::wide(block[0]))
+    payload_start(u32::from(block[0]))
 }
 
 // Arm 1 or 2.
+#[tactic(auto, unfolding(paper::specs::Block::arm_in))]
 fn arm_in(arm: u32) -> bool
     ensures { result ≡ arm_in arm }
 {
-    if arm < 1 {
-        return false;
-    }
-    arm <= 2
+    (1..=2).contains(&arm)
 }
 
 // Arm and mount in range; edition 1 ignores them.
+// It takes numbers: it judges arguments that anybody may have written, and an `Origin` has no arm 300 to refuse.
+#[tactic(auto, unfolding(paper::specs::Block::origin_in))]
 pub fn origin_in(edition: u32, arm: u32, mount: u32) -> bool
     ensures { result ≡ origin_in (record { edition = edition; arm = arm; mount = mount }) }
 {
-    if edition == 1 {
-        return true;
-    }
-    if !arm_in(arm) {
-        return false;
-    }
-    mount <= MOST_MOUNT
+    edition == 1 || arm_in(arm) && mount <= MOST_MOUNT
 }
 
-// `src` over the front of `dst`.
-pub fn copy_in(dst: &mut [u8], src: &[u8])
-    requires { length src.now ≤ length dst.old }
-    ensures { dst.new ≡ over src.now dst.old }
+// How many bytes the payload of a record's blocks has, by their edition: a number, as `payload_start` takes it.
+#[tactic(auto, using(crate::proofs::Editions::start_most))]
+pub fn payload_bytes(edition: u32) -> usize
+    ensures { result ≡ payload_bytes (start_of edition) }
 {
-    let mut i = 0;
-    while i < src.len() {
-        dst[i] = src[i];
-        i += 1;
-    }
+    CHECKS - payload_start(edition)
 }
 
-// How many bytes the payload of a record's blocks has.
-pub fn payload_bytes(h: Heading) -> usize
-    ensures { result ≡ payload_bytes (start_of h.edition) }
+// A number in two bytes, high byte first; of a larger one its low part.
+fn two_bytes(v: usize) -> [u8; 2]
+    ensures { result ≡ two_bytes v }
 {
-    CHECKS - payload_start(sums::wide(h.edition))
+    let [.., high, low] = v.to_be_bytes();
+    [high, low]
 }
 
-// 512 zero bytes with the header in them: the single bytes first, and then the label's part.
-fn headed(h: Heading, label: &[u8], number: usize, count: usize) -> [u8; BLOCK]
+// A number in three bytes, high byte first; of a larger one its low part.
+fn three_bytes(v: u32) -> [u8; 3]
+    ensures { result ≡ three_bytes v }
+{
+    let [_, high, middle, low] = v.to_be_bytes();
+    [high, middle, low]
+}
+
+// The header at the front.
+fn with_header(
+    from: [u8; BLOCK],
+    h: Heading,
+    label: &[u8],
+    number: usize,
+    count: usize,
+) -> [u8; BLOCK]
     requires { length label.now ≡ 8 }
-    ensures { result ≡ header h.edition h.k h.levels h.n label.now number count ++ replicate (block_bytes - header_bytes) 0 }
+    ensures { result ≡ header (origin_of h.origin).edition h.k h.levels h.n label.now number count ++ drop header_bytes from }
 {
-    let mut block = [0u8; BLOCK];
-    block[0] = h.edition;
+    let mut block = from;
+    block[0] = h.origin.edition();
     block[1] = h.k;
     block[2] = h.levels;
     block[3] = h.n;
-    block[12] = (number / 256 % 256) as u8;
-    block[13] = (number % 256) as u8;
-    block[14] = (count / 256 % 256) as u8;
-    block[15] = (count % 256) as u8;
-    copy_in(&mut block[4..12], label);
+    block[4..12].copy_from_slice(label);
+    block[12..14].copy_from_slice(&two_bytes(number));
+    block[14..HEADER].copy_from_slice(&two_bytes(count));
     block
 }
 
-// Arm and mount behind the header, where the edition names them.
-fn with_origin(from: [u8; BLOCK], h: Heading) -> [u8; BLOCK]
-    ensures { result ≡ take header_bytes from ++ (named (origin_of h) ++ drop (start_of h.edition) from) }
+// Arm and mount behind the header, where the origin names them.
+#[tactic(auto, using(crate::proofs::Copies::no_origin_in))]
+fn with_origin(from: [u8; BLOCK], origin: Origin) -> [u8; BLOCK]
+    ensures { result ≡ take header_bytes from ++ (named (origin_of origin) ++ drop (start_of (origin_of origin).edition) from) }
 {
-    if h.edition == 1 {
-        return from;
-    }
     let mut block = from;
-    block[HEADER] = h.arm;
-    block[HEADER + 1] = (h.mount / 65536 % 256) as u8;
-    block[HEADER + 2] = (h.mount / 256 % 256) as u8;
-    block[HEADER + 3] = (h.mount % 256) as u8;
+    if let Origin::Second { arm, mount } = origin {
+        block[HEADER] = arm;
+        block[HEADER + 1..HEADER + 4].copy_from_slice(&three_bytes(mount));
+    }
     block
 }
 
 // The payload's part filled.
+#[tactic(auto, using(crate::proofs::Copies::payload_in))]
 fn with_payload(from: [u8; BLOCK], start: usize, payload: &[u8]) -> [u8; BLOCK]
     requires start_le_checks_start { start ≤ checks_start }
     requires payload_len { length payload.now ≡ payload_bytes start }
     ensures { result ≡ take start from ++ (payload.now ++ drop checks_start from) }
 {
     let mut block = from;
-    copy_in(&mut block[start..CHECKS], payload);
+    block[start..CHECKS].copy_from_slice(payload);
     block
 }
 
@@ -150,97 +172,88 @@ fn with_checks(from: [u8; BLOCK]) -> [u8; BLOCK]
     let mut block = from;
     let a = sums::check_a(&block[0..CHECKS]);
     let b = sums::check_b(&block[0..CHECKS]);
-    block[CHECKS] = (a / 256 % 256) as u8;
-    block[CHECKS + 1] = (a % 256) as u8;
-    block[CHECKS + 2] = (b / 256 % 256) as u8;
-    block[CHECKS + 3] = (b % 256) as u8;
+    block[CHECKS..CHECKS + 2].copy_from_slice(&two_bytes(a as usize));
+    block[CHECKS + 2..BLOCK].copy_from_slice(&two_bytes(b as usize));
     block
 }
 
 // A block, by value.
+#[tactic(auto, using(crate::proofs::Editions::start_most))]
 pub fn made(h: Heading, label: &[u8], number: usize, count: usize, payload: &[u8]) -> [u8; BLOCK]
     requires label_len { length label.now ≡ 8 }
-    requires payload_len { length payload.now ≡ payload_bytes (start_of h.edition) }
-    ensures { result ≡ made_block (origin_of h) h.k h.levels h.n label.now number count payload.now }
+    requires payload_len { length payload.now ≡ payload_bytes (start_of (origin_of h.origin).edition) }
+    ensures { result ≡ made_block (origin_of h.origin) h.k h.levels h.n label.now number count payload.now }
 {
-    let start = payload_start(sums::wide(h.edition));
-    let front = with_origin(headed(h, label, number, count), h);
+    let start = payload_start(u32::from(h.origin.edition()));
+    let front = with_origin(with_header([0; BLOCK], h, label, number, count), h.origin);
     with_checks(with_payload(front, start, payload))
 }
 
 // The edition is one that there is, and the arm is right where it is named.
-fn origin_right(block: &[u8]) -> bool
-    requires { length block.now ≡ block_bytes }
+#[tactic(auto, using(crate::proofs::Editions::origin_unknown, crate::proofs::Editions::origin_first, crate::proofs::Editions::origin_armed))]
+fn origin_right(block: &[u8; BLOCK]) -> bool
     ensures { result ≡ origin_right block.now }
 {
-    let edition = sums::wide(block[0]);
-    if !edition_in(edition) {
-        return false;
-    }
-    if edition == 1 {
-        return true;
-    }
-    arm_in(sums::wide(block[HEADER]))
+    let edition = u32::from(block[0]);
+    edition_in(edition) && (edition == 1 || arm_in(u32::from(block[HEADER])))
 }
 
 // What every edition has is right: k, L, n, label, payload count and the unused bits.
-fn fields_right(block: &[u8], start: usize) -> bool
-    requires block_len { length block.now ≡ block_bytes }
-    requires start_le_checks_start { start ≤ checks_start }
+#[tactic(auto, unfolding(paper::specs::Block::fields_right, paper::specs::Block::payload_of))]
+fn fields_right(block: &[u8; BLOCK], start: usize) -> bool
+    requires { start ≤ checks_start }
     ensures { result ≡ fields_right start block.now }
 {
-    let k = sums::wide(block[1]);
-    if !sizes::size_in(k) {
-        return false;
-    }
-    if !sizes::levels_in(k, sums::wide(block[2])) {
-        return false;
-    }
-    if !sizes::planes_in(sums::wide(block[3])) {
-        return false;
-    }
-    if !fields::is_label(&block[4..12]) {
-        return false;
-    }
+    let k = u32::from(block[1]);
     let count = fields::pair_at(block, 14);
-    if count > 8 * (CHECKS - start) {
-        return false;
-    }
-    fields::unused_zero(&block[start..CHECKS], count)
+    sizes::size_in(k)
+        && sizes::levels_in(k, u32::from(block[2]))
+        && sizes::planes_in(u32::from(block[3]))
+        && fields::is_label(&block[4..12])
+        && count <= 8 * (CHECKS - start)
+        && fields::unused_zero(&block[start..CHECKS], count)
 }
 
 // All that row 9 asks.
-fn contents_right(block: &[u8]) -> bool
-    requires { length block.now ≡ block_bytes }
+#[tactic(auto, using(crate::proofs::Editions::start_most))]
+fn contents_right(block: &[u8; BLOCK]) -> bool
     ensures { result ≡ contents_right block.now }
 {
-    if !origin_right(block) {
-        return false;
-    }
-    fields_right(block, start_in(block))
+    origin_right(block) && fields_right(block, start_in(block))
 }
 
 // A and B are right.
-fn checks_right(block: &[u8]) -> bool
-    requires { length block.now ≡ block_bytes }
+#[tactic(auto, unfolding(paper::specs::Block::checks_right))]
+fn checks_right(block: &[u8; BLOCK]) -> bool
     ensures { result ≡ checks_right block.now }
 {
     let body = &block[0..CHECKS];
-    if fields::pair_at(block, CHECKS) != sums::check_a(body) as usize {
-        return false;
-    }
-    fields::pair_at(block, CHECKS + 2) == sums::check_b(body) as usize
+    fields::pair_at(block, CHECKS) == sums::check_a(body) as usize
+        && fields::pair_at(block, CHECKS + 2) == sums::check_b(body) as usize
 }
 
-// The single-block check: 0, or 6, 8 or 9.
-pub fn check(block: &[u8]) -> u32
-    ensures { result ≡ check_job block.now }
+// The bytes as the block that they are, if they pass the single-block check.
+#[tactic(auto, unfolding(paper::specs::Block::block_refusal))]
+pub fn checked(bytes: &[u8]) -> Result<&[u8; BLOCK], Refusal>
+    ensures refusal { refusal_of result ≡ check_job bytes.now }
+    ensures whole { IfOk result (λ block. block.now ≡ bytes.now) }
 {
-    if block.len() != BLOCK {
-        return 6;
-    }
+    let Some(block) = bytes.as_array::<BLOCK>() else {
+        return Err(Refusal::Room);
+    };
     if !checks_right(block) {
-        return 8;
+        return Err(Refusal::Check);
     }
-    if contents_right(block) { 0 } else { 9 }
+    if !contents_right(block) {
+        return Err(Refusal::Field);
+    }
+    Ok(block)
+}
+
+// The single-block check.
+pub fn check(block: &[u8]) -> Result<(), Refusal>
+    ensures { refusal_of result ≡ check_job block.now }
+{
+    checked(block)?;
+    Ok(())
 }

@@ -1,5 +1,5 @@
--- The job: which row refuses it, what it is once no row does, and what it then hands over.
-use mathlib.Core.Path.{◌≡◌, sym, ap, ◌∙◌}
+-- The job: which row refuses it, what is right once no row does, and what it then hands over.
+use mathlib.Core.Path.{◌≡◌, sym, ◌∙◌}
 use mathlib.Core.Bool.{Bool, true, false}
 use mathlib.Core.List.{List}
 use Prim.Native.Nat.{ℕ, zero, suc, ◌*◌, ◌/◌, ◌^◌, ◌<◌, ◌≤◌, min}
@@ -7,49 +7,57 @@ use native.Mathlib.Omega.{arith}
 use lib.Dec.{leb, eqb}
 use lib.IntN.{ℤ}
 use lib.ListN.{length, take}
-use borrow.Author.Tests.{eqb-true}
+use borrow.Author.Tests.{eq-eqb, ne_eqb, eqb-true}
+use Rattle.std.specs.Prelude.{Err}
 use Rattle.paper.specs.Sizes.{most_size, most_planes, numbers_in, unless}
 use Rattle.paper.specs.Walk.{largest, bits_needed, plane_count, Coder, walk_planes, depth, code_of}
 use Rattle.paper.specs.Bits.{laid}
 use Rattle.paper.specs.Jobs.{sizes_refusal, coding_refusal, written_of, coding_job}
+use Rattle.refusals.specs.declared.Refusal.{Refusal}
+use Rattle.refusals.specs.Numbers.{number_of}
+use Rattle.refusals.proofs.Numbers.{numbered}
 use Rattle.sizes.proofs.Ranges.{size_high, levels_less}
 use Rattle.sizes.proofs.Refusals.{row_passed, rows_left, size_accepted, levels_accepted, sizes_left, sizes_stand, sizes_leave, refused_is, done_is}
-use Rattle.bits.specs.Bits.{Sink}
+use Rattle.bits.specs.Bits.{Sink, wrote}
+use Rattle.bits.specs.declared.BitSink.{BitSink}
 use Rattle.bits.proofs.Written.{wrote_laid}
-use Rattle.set_coder.specs.Coded.{Coded}
+use Rattle.set_coder.specs.Coded.{stands, Coded}
+use Rattle.coding.specs.Answers.{coding_answer}
 
 -- ---- the rows
-pub sizes_row : (k L r : ℕ) (xs : List ℤ) → r ≡ sizes_refusal k L 0 → 0 < r → r ≡ coding_refusal k L xs
-unfolding coding_refusal
-sizes_row k L r xs e h = e ∙ sym (sizes_stand k L _ (omega arith))
+module _ (k L : ℕ) (xs : List ℤ) where
+  pub sizes_refused : (r : Refusal) → number_of r ≡ sizes_refusal k L 0 → number_of r ≡ coding_refusal k L xs
+  unfolding coding_refusal
+  sizes_refused r e = e ∙ sym (sizes_stand k L _ (omega (arith, numbered r)))
 
-pub later_rows : (k L r : ℕ) (xs : List ℤ) (square range : Bool) → r ≡ sizes_refusal k L 0 → r ≤ 0 → eqb (length xs) (4 ^ k) ≡ square → numbers_in xs ≡ range
-    → unless 3 square (unless 4 range 0) ≡ coding_refusal k L xs
-unfolding coding_refusal
-later_rows k L r xs square range e z s n = (λ i. unless 3 (sym s i) (unless 4 (sym n i) 0)) ∙ sym (sizes_leave k L _ (omega arith))
+  module _ (sizes_right : 0 ≡ sizes_refusal k L 0) where
+    pub length_refused : (length xs ≡ 4 ^ k → ⊥) → 3 ≡ coding_refusal k L xs
+    unfolding coding_refusal
+    length_refused f = sym (sizes_leave k L _ (sym sizes_right) ∙ rw (ne_eqb (length xs) (4 ^ k) f))
 
--- no row applies
-pub record Accepted (k L : ℕ) (xs : List ℤ) : Type 0 where
-  pub none : coding_refusal k L xs ≡ 0
+    pub range_judged : length xs ≡ 4 ^ k → (range : Bool) → numbers_in xs ≡ range → unless 4 range 0 ≡ coding_refusal k L xs
+    unfolding coding_refusal
+    range_judged l range f = sym (sizes_leave k L _ (sym sizes_right) ∙ rw (eq-eqb (length xs) (4 ^ k) l, f))
+
+-- what is right where no row applies
+pub record Right (k L : ℕ) (xs : List ℤ) : Type 0 where
   pub less : L < k
   pub high : k ≤ most_size
   pub square : length xs ≡ 4 ^ k
   pub range : numbers_in xs ≡ true
 
-pub accepted : (k L r : ℕ) (xs : List ℤ) → r ≡ coding_refusal k L xs → r ≤ 0 → Accepted k L xs
+pub right : (k L : ℕ) (xs : List ℤ) → 0 ≡ coding_refusal k L xs → Right k L xs
 unfolding coding_refusal
-accepted k L r xs e z =
+right k L xs judged =
     let square = eqb (length xs) (4 ^ k) in
     let range = numbers_in xs in
-    let rows = unless 3 square (unless 4 range 0) in
-    let n : sizes_refusal k L rows ≡ 0 = omega arith in
-    let m : rows ≡ 0 = sizes_left k L rows n in
+    let e = sym judged in
+    let rows = sizes_left k L _ e in
     record {
-      none = n;
-      less = levels_less k L (levels_accepted k L rows n);
-      high = size_high k (size_accepted k L rows n);
-      square = eqb-true (length xs) (4 ^ k) (row_passed 2 square (unless 4 range 0) m);
-      range = row_passed 3 range 0 (rows_left 2 square (unless 4 range 0) m);
+      less = levels_less k L (levels_accepted k L _ e);
+      high = size_high k (size_accepted k L _ e);
+      square = eqb-true (length xs) (4 ^ k) (row_passed 2 square _ rows);
+      range = row_passed 3 range 0 (rows_left 2 square _ rows);
     }
 
 -- ---- n and the most bits
@@ -68,20 +76,20 @@ planes_few xs = bits_few most_planes (largest xs)
 
 -- ---- what the job hands over
 module _ (k L : ℕ) (xs : List ℤ) (limit : ℕ) (bytes : List ℕ) where
-  pub refused : (r : ℕ) → r ≡ coding_refusal k L xs → 0 < r → coding_job k L xs limit bytes ≡ record { refusal = r; written = 0; n = 0; bytes = bytes }
+  pub job_refused : (r : Refusal) → number_of r ≡ coding_refusal k L xs → coding_job k L xs limit bytes ≡ coding_answer (Err r) bytes
   unfolding coding_job
-  refused r e h =
-      refused_is (coding_refusal k L xs) (λ r. record { refusal = r; written = 0; n = 0; bytes = bytes }) _ (omega arith)
-      ∙ ap (λ r. record { refusal = r; written = 0; n = 0; bytes = bytes }) (sym e)
+  job_refused r e = rw (sym e) (refused_is (number_of r) _ _ (numbered r))
 
-  pub done : (n most written : ℕ) (exit : List ℕ) → Accepted k L xs → n ≡ plane_count xs → most ≡ min limit (8 * length bytes)
-      → Coded (walk_planes Coder (depth k L) L n xs) most (bytes, 0) (xs, 0) (exit, written) → coding_job k L xs limit bytes ≡ record { refusal = 0; written = written; n = n; bytes = exit }
+  -- the sink begins with the bytes, at their first bit, and ends with the planes coded
+  pub job_done : (n most : ℕ) (entry exit : BitSink) → 0 ≡ coding_refusal k L xs → n ≡ plane_count xs → most ≡ min limit (8 * length bytes)
+      → stands entry ≡ (bytes, 0) → entry.limit ≡ most → Coded (walk_planes Coder (depth k L) L n xs) entry (xs, 0) exit
+      → coding_job k L xs limit bytes ≡ record { refusal = 0; written = exit.place; n = n; bytes = exit.bytes.now }
   unfolding coding_job written_of code_of
-  done n most written exit A is-n is-most w =
+  job_done n most entry exit e is-n is-most starts is-limit w =
       let coded : ℕ → List Bool = λ n. (walk_planes Coder (depth k L) L n xs).1 in
       let l = take most (coded n) in
-      let e : l ≡ written_of k L xs limit bytes = λ i. take (is-most i) (coded (is-n i)) in
-      let v : ◌≡◌ {A = Sink} (laid l bytes, length l) (exit, written) = sym (w.put ∙ wrote_laid most (coded n) bytes (omega arith)) in
-      done_is (coding_refusal k L xs) _ _ A.none
-      ∙ (λ i. record { refusal = 0; written = length (sym e i); n = sym is-n i; bytes = laid (sym e i) bytes })
+      let f : l ≡ written_of k L xs limit bytes = λ i. take (is-most i) (coded (is-n i)) in
+      let v : ◌≡◌ {A = Sink} (laid l bytes, length l) (stands exit) = sym (w.put ∙ (λ i. wrote (is-limit i) (coded n) (starts i)) ∙ wrote_laid most (coded n) bytes (omega arith)) in
+      done_is _ _ _ (sym e)
+      ∙ (λ i. record { refusal = 0; written = length (sym f i); n = sym is-n i; bytes = laid (sym f i) bytes })
       ∙ (λ i. record { refusal = 0; written = (v i).1; n = n; bytes = (v i).0 })

@@ -3,55 +3,59 @@
 
 ghost use Rattle.std.specs.Prelude.{◌≡◌, ◌*◌, min};
 ghost use Rattle.paper.specs.Jobs.{coding_refusal, coding_job};
+ghost use Rattle.refusals.specs.Numbers.{refusal_of};
+ghost use Rattle.coding.specs.Answers.{coding_answer};
 
-#[repr(C)]
-#[derive(Clone, Copy)]
+use bits::BitSink;
+use refusals::Refusal;
+use sizes::Size;
+
+// What a coding wrote: so many bits, and the planes they are of.
+#[derive(Clone, Copy, Debug, PartialEq, Eq)]
 pub struct Written {
-    pub refusal: u32,
     pub bits: usize,
     pub n: u32,
 }
 
-// The rows of the refusal table that this job has inputs for.
-fn coding_refusal(k: u32, levels: u32, numbers: &[i32]) -> u32
-    ensures { result ≡ coding_refusal k levels numbers.now }
+// Refusals 1 to 4, lowest first.
+fn judge_coding(k: u32, levels: u32, numbers: &[i32]) -> Result<(), Refusal>
+    ensures { refusal_of result ≡ coding_refusal k levels numbers.now }
 {
-    let r = sizes::sizes_refusal(k, levels);
-    if r > 0 {
-        return r;
+    sizes::judge(k, levels)?;
+    if numbers.len() != Size::new(k).area() {
+        return Err(Refusal::Length);
     }
-    if numbers.len() != sizes::area(k) {
-        return 3;
+    if !sizes::numbers_in(numbers) {
+        return Err(Refusal::Magnitude);
     }
-    if sizes::numbers_in(numbers) { 0 } else { 4 }
+    Ok(())
 }
 
-// The most bits that may be written. 8 × the bytes lent may pass the largest usize, so the limit is divided.
+// The most bits that may be written. 8 × the bytes lent may pass the largest usize, but then it passes the limit too.
 fn room(limit: usize, lent: usize) -> usize
     ensures { result ≡ min limit (8 * lent) }
 {
-    if limit / 8 < lent { limit } else { 8 * lent }
+    limit.min(lent.saturating_mul(8))
 }
 
 // Codes wavelet numbers into the bytes lent: the first min(limit, 8 × bytes lent, total) bits.
-pub fn code(k: u32, levels: u32, numbers: &[i32], limit: usize, bytes: &mut [u8]) -> Written
-    ensures { coding_job k levels numbers.now limit bytes.old ≡ record { refusal = result.refusal; written = result.bits; n = result.n; bytes = bytes.new } }
+pub fn code(
+    k: u32,
+    levels: u32,
+    numbers: &[i32],
+    limit: usize,
+    bytes: &mut [u8],
+) -> Result<Written, Refusal>
+    ensures { coding_job k levels numbers.now limit bytes.old ≡ coding_answer result bytes.new }
 {
-    let refused = coding_refusal(k, levels, numbers);
-    if refused > 0 {
-        return Written {
-            refusal: refused,
-            bits: 0,
-            n: 0,
-        };
-    }
+    judge_coding(k, levels, numbers)?;
     let n = sizes::plane_count(numbers);
-    let first = shapes::first_set(k, levels);
+    let first = shapes::first_set(Size::new(k), levels);
     let most = room(limit, bytes.len());
-    let written = plane_coder::code_planes(numbers, first, n, bytes, most);
-    Written {
-        refusal: 0,
-        bits: written,
-        n: n,
-    }
+    let mut sink = BitSink::new(bytes, most);
+    plane_coder::code_planes(numbers, first, n, &mut sink);
+    Ok(Written {
+        bits: sink.place,
+        n,
+    })
 }

@@ -5,90 +5,72 @@
 // wrong, it says what, and nothing is written. docs/MEMORY.md has the sum of the buffers.
 #![tactic(auto)]
 
-ghost use Rattle.std.specs.Prelude.{◌≤◌};
+ghost use Rattle.std.specs.Prelude.{◌≤◌, length};
 
-use desk::{MOST_GREYS, PAYLOAD_ROOM, RECORD_BYTES, Wanted};
+use desk::{MOST_GREYS, PAYLOAD_ROOM, RECORD_BYTES, Unshown, Wanted};
 use record::Kept;
+use refusals::Refusal;
 use square_pgm::MOST_HELD;
+use std::io;
 use std::io::Write;
 use std::rt::HostRuntime;
+use title::Origin;
+use verdict::Depth;
+use words::Line;
+use worth::Decoded;
 
 // The program's own text, also for a person who used it wrongly.
 fn write_help<W: Write>(to: &mut W) {
-    pipes::write_all(
-        to,
+    let texts: [&[u8]; 4] = [
         b"usage: decode [--softer | --thumbnail R] LABEL < record > picture.pgm\n\nMakes the picture (PGM) of a record, whole or cut anywhere, side 8 to 64.\n  LABEL  the label expected: eight characters, 0-9 or A-Z; leading zeros count\n",
-    );
-    pipes::write_all(
-        to,
         b"  --softer       makes a cut one softer for the eye: half of what is unknown is\n                 added to the magnitude of each number but 0; the promise stays\n  --thumbnail R  makes a thumbnail of it, the side halved R times: from 1 to the\n                 levels of the record\n",
-    );
-    pipes::write_all(
-        to,
         b"Standard error says WHOLE, CUT or REFUSED, and what the picture is worth; a\nrefusal writes no picture. `label decode` does the same with an exit status.\n",
-    );
-    pipes::write_all(
-        to,
         b"What can't be promised: blocks of two shots under one label, with the same side,\nlevels and planes, splice unnoticed in edition 1, in edition 2 only if arm and\nmount number are the same too; no line here tells.\n",
-    );
+    ];
+    for text in texts {
+        let _ = pipes::write_all(to, text);
+    }
 }
 
-// Each function puts the lines that are said at its end into `line`, and answers their length.
+// Each function puts the lines that are said at its end into `line`.
 
-fn short_line(count: usize, line: &mut [u8]) -> usize {
-    let came = words::put_figure(
-        b"REFUSED: no whole block came, only ",
-        count as u64,
-        line,
-        0,
-    );
-    words::put(b" of 512 bytes (6)\n", line, came)
+fn short_line(count: usize, line: &mut Line<'_>) {
+    line.put_figure(b"REFUSED: no whole block came, only ", count as u64);
+    line.put(b" of 512 bytes (6)\n");
 }
 
-fn put_refused(label: &[u8], line: &mut [u8]) -> usize {
-    let verdict = words::put(b"REFUSED ", line, 0);
-    words::put(label, line, verdict)
+fn put_refused(label: &[u8], line: &mut Line<'_>) {
+    line.put(b"REFUSED ");
+    line.put(label);
 }
 
-fn side_line(label: &[u8], k: u32, line: &mut [u8]) -> usize {
-    let named = put_refused(label, line);
-    let side = words::put_figure(b": side ", worth::side(k), line, named);
-    words::put(b", and this program holds sides up to 64\n", line, side)
+fn side_line(label: &[u8], k: u32, line: &mut Line<'_>) {
+    put_refused(label, line);
+    line.put_figure(b": side ", worth::side(k));
+    line.put(b", and this program holds sides up to 64\n");
 }
 
-fn halvings_line(label: &[u8], levels: u32, line: &mut [u8]) -> usize {
-    let named = put_refused(label, line);
-    let most = words::put_figure(b": R goes from 1 to ", levels as u64, line, named);
-    words::put(b", the levels of this record (13)\n", line, most)
+fn halvings_line(label: &[u8], levels: u32, line: &mut Line<'_>) {
+    put_refused(label, line);
+    line.put_figure(b": R goes from 1 to ", u64::from(levels));
+    line.put(b", the levels of this record (13)\n");
 }
 
-// The header with its promise, and the greys of what is shown; false if they could not be written.
+// The header with its promise, and the greys of what is shown.
 fn write_picture(
     rt: &HostRuntime,
-    wanted: Wanted,
-    kept: Kept,
-    unfinished: u32,
+    decoded: Decoded,
     label: &[u8],
     picture: &[u8],
-) -> bool {
-    let halvings = desk::halvings(wanted);
-    let k = sizes::less(kept.k, halvings);
+) -> io::Result<()> {
+    let k = decoded.k.saturating_sub(decoded.halvings);
     let mut promise = [0u8; 160];
-    let told = promise::promise(
-        label,
-        kept.k,
-        kept.levels,
-        halvings,
-        desk::wants_softer(wanted),
-        unfinished,
-        kept.blocks,
-        &mut promise,
-    );
+    let mut promise = Line::new(&mut promise);
+    promise::promise(label, decoded, &mut promise);
     let mut header = [0u8; 208];
-    let count = square_pgm::write_header(k, &promise[..told], &mut header);
-    if !pipes::write_front(&mut rt.stdout(), &header, count) {
-        return false;
-    }
+    let mut header = Line::new(&mut header);
+    square_pgm::write_header(k, promise.text(), &mut header);
+    pipes::write_all(&mut rt.stdout(), header.text())?;
     pipes::write_front(&mut rt.stdout(), picture, desk::area(k))
 }
 
@@ -100,11 +82,11 @@ fn rebuild(
     label: &[u8],
     ended: &[u8],
     picture: &mut [u8],
-    line: &mut [u8],
-) -> usize {
+    line: &mut Line<'_>,
+) {
     let mut numbers = [0i32; MOST_GREYS];
     let mut working = [0i32; MOST_GREYS];
-    let settled = desk::rebuild(
+    let rebuilt = desk::rebuild(
         wanted,
         kept.k,
         kept.levels,
@@ -115,32 +97,38 @@ fn rebuild(
         picture,
         &mut working,
     );
-    if settled.refusal == 13 {
-        return halvings_line(label, kept.levels, line);
+    let settled = match rebuilt {
+        Ok(settled) => settled,
+        Err(
+            Unshown {
+                refusal: Refusal::Halvings,
+                ..
+            },
+        ) => return halvings_line(label, kept.levels, line),
+        Err(unshown) => return remarks::refused(unshown.refusal.number(), line),
+    };
+    let decoded = Decoded {
+        k: kept.k,
+        levels: kept.levels,
+        halvings: desk::halvings(wanted),
+        softer: desk::wants_softer(wanted),
+        unfinished: settled.unfinished,
+        blocks: kept.blocks,
+    };
+    if write_picture(rt, decoded, label, picture).is_err() {
+        return line.put(b"REFUSED: standard output could not be written\n");
     }
-    if settled.refusal != 0 {
-        return remarks::refused(settled.refusal, line);
-    }
-    if !write_picture(rt, wanted, kept, settled.unfinished, label, picture) {
-        return words::put(b"REFUSED: standard output could not be written\n", line, 0);
-    }
-    verdict::report(
-        label,
-        kept.k,
-        kept.levels,
-        desk::halvings(wanted),
-        desk::wants_softer(wanted),
-        kept.edition,
-        kept.arm,
-        kept.mount,
-        kept.n,
-        kept.blocks,
-        kept.bits,
-        settled.unfinished,
-        settled.place,
-        ended,
-        line,
-    )
+    let origin = Origin {
+        edition: kept.edition,
+        arm: kept.arm,
+        mount: kept.mount,
+    };
+    let depth = Depth {
+        planes: kept.n,
+        bits: kept.bits,
+        place: settled.place,
+    };
+    verdict::report(label, decoded, origin, depth, ended, line);
 }
 
 // The blocks are of no use once they are read and what ended the run is said, and their memory is the picture's: every grey
@@ -151,37 +139,30 @@ fn decode(
     room: &mut [u8],
     count: usize,
     label: &[u8],
-    line: &mut [u8],
-) -> usize {
-    if room.len() < count {
-        return 0;
-    }
+    line: &mut Line<'_>,
+)
+    requires { count ≤ length room.old }
+{
     let mut payload = [0u8; PAYLOAD_ROOM];
-    let kept = label::read(&room[..count], label, &mut payload);
-    if kept.refusal == 6 {
-        return short_line(count, line);
-    }
-    if 7 < kept.refusal {
-        return faults::refused(kept.refusal, &room[..count], label, line);
-    }
-    if kept.refusal != 0 {
-        return remarks::refused(kept.refusal, line);
-    }
+    let kept = match label::read(&room[..count], label, &mut payload) {
+        Ok(kept) => kept,
+        Err(Refusal::Room) => return short_line(count, line),
+        Err(Refusal::Label) => return remarks::refused(Refusal::Label.number(), line),
+        Err(refusal) => return faults::refused(refusal.number(), &room[..count], label, line),
+    };
     if MOST_HELD < kept.k {
         return side_line(label, kept.k, line);
     }
     let mut ended = [0u8; 464];
-    let told = faults::ended(kept.ended, &room[..count], label, kept.blocks, &mut ended);
-    rebuild(
-        rt,
-        wanted,
-        kept,
-        &payload,
+    let mut ended = Line::new(&mut ended);
+    faults::ended(
+        kept.ended.map_or(0, Refusal::number),
+        &room[..count],
         label,
-        &ended[..told],
-        room,
-        line,
-    )
+        kept.blocks,
+        &mut ended,
+    );
+    rebuild(rt, wanted, kept, &payload, label, ended.text(), room, line);
 }
 
 fn read_and_decode(
@@ -189,92 +170,81 @@ fn read_and_decode(
     wanted: Wanted,
     room: &mut [u8],
     label: &[u8],
-    line: &mut [u8],
-) -> usize {
-    let filled = pipes::read_all(&mut rt.stdin(), room);
-    if filled.failed {
-        return words::put(b"REFUSED: standard input could not be read\n", line, 0);
+    line: &mut Line<'_>,
+) {
+    match pipes::read_all(&mut rt.stdin(), room) {
+        Ok(count) => decode(rt, wanted, room, count, label, line),
+        Err(_) => line.put(b"REFUSED: standard input could not be read\n"),
     }
-    decode(rt, wanted, room, filled.count, label, line)
 }
 
 // The picture, as it is or softer.
-fn show(rt: &HostRuntime, wanted: Wanted, label: &[u8], line: &mut [u8]) -> usize {
+fn show(rt: &HostRuntime, wanted: Wanted, label: &[u8], line: &mut Line<'_>) {
     let mut room = [0u8; RECORD_BYTES];
-    read_and_decode(rt, wanted, &mut room, label, line)
+    read_and_decode(rt, wanted, &mut room, label, line);
 }
 
 // A thumbnail, for which R is argument 2: it is read through the room that the blocks will have.
-fn show_thumbnail(rt: &HostRuntime, label: &[u8], line: &mut [u8]) -> usize {
+fn show_thumbnail(rt: &HostRuntime, label: &[u8], line: &mut Line<'_>) {
     let mut room = [0u8; RECORD_BYTES];
-    let halvings = arguments::number(rt, 2, &mut room);
-    if halvings.next == 0 {
-        return arguments::number_line(rt, 2, b"R", &mut room, line);
+    match arguments::number(rt, 2, &mut room) {
+        Some(halvings) => {
+            read_and_decode(rt, Wanted::Thumbnail(halvings), &mut room, label, line);
+        }
+        None => arguments::number_line(rt, 2, b"R", &mut room, line),
     }
-    read_and_decode(
-        rt,
-        Wanted::Thumbnail(halvings.value),
-        &mut room,
-        label,
-        line,
-    )
 }
 
-// Whether argument i is the last one.
-fn has_last(rt: &HostRuntime, i: usize) -> bool
+// The label, argument i, where it is the last one and no option. One that is longer than the room is no label.
+fn last_label<'a>(rt: &HostRuntime, i: usize, room: &'a mut [u8]) -> Option<&'a [u8]>
     requires { i ≤ 3 }
 {
-    arguments::is_given(rt, i) && !arguments::is_given(rt, i + 1)
+    if !arguments::is_given(rt, i) || arguments::is_given(rt, i + 1) {
+        return None;
+    }
+    let label = arguments::word(rt, i, room).unwrap_or(b"");
+    if arguments::is_option(label) {
+        return None;
+    }
+    Some(label)
 }
 
 // What stands behind --thumbnail: R and the label.
-fn run_thumbnail(rt: &HostRuntime, line: &mut [u8]) -> usize {
-    let mut label = [0u8; 16];
-    let count = arguments::word(rt, 3, &mut label);
-    if !has_last(rt, 3) || arguments::is_option(&label[..count]) {
-        write_help(&mut rt.stderr());
-        return 0;
+fn run_thumbnail(rt: &HostRuntime, line: &mut Line<'_>) {
+    let mut given = [0u8; 16];
+    match last_label(rt, 3, &mut given) {
+        Some(label) => show_thumbnail(rt, label, line),
+        None => write_help(&mut rt.stderr()),
     }
-    show_thumbnail(rt, &label[..count], line)
 }
 
-// What stands behind --softer: the label.
-fn run_softer(rt: &HostRuntime, line: &mut [u8]) -> usize {
-    let mut label = [0u8; 16];
-    let count = arguments::word(rt, 2, &mut label);
-    if !has_last(rt, 2) || arguments::is_option(&label[..count]) {
-        write_help(&mut rt.stderr());
-        return 0;
+// The label is argument i: the first, or what stands behind --softer.
+fn run_picture(rt: &HostRuntime, wanted: Wanted, i: usize, line: &mut Line<'_>)
+    requires { i ≤ 3 }
+{
+    let mut given = [0u8; 16];
+    match last_label(rt, i, &mut given) {
+        Some(label) => show(rt, wanted, label, line),
+        None => write_help(&mut rt.stderr()),
     }
-    show(rt, Wanted::Softer, &label[..count], line)
 }
 
-fn run(rt: &HostRuntime, line: &mut [u8]) -> usize {
-    let mut label = [0u8; 16];
-    let count = arguments::word(rt, 1, &mut label);
-    if fields::same_bytes(&label[..count], b"--help") {
-        write_help(&mut rt.stdout());
-        return 0;
+fn run(rt: &HostRuntime, line: &mut Line<'_>) {
+    let mut given = [0u8; 16];
+    match arguments::word(rt, 1, &mut given) {
+        Some(b"--help") => write_help(&mut rt.stdout()),
+        Some(b"--version") => {
+            let _ = pipes::write_all(&mut rt.stdout(), b"decode 0.7.0\n");
+        }
+        Some(b"--thumbnail") => run_thumbnail(rt, line),
+        Some(b"--softer") => run_picture(rt, Wanted::Softer, 2, line),
+        _ => run_picture(rt, Wanted::Picture, 1, line),
     }
-    if fields::same_bytes(&label[..count], b"--version") {
-        pipes::write_all(&mut rt.stdout(), b"decode 0.7.0\n");
-        return 0;
-    }
-    if fields::same_bytes(&label[..count], b"--thumbnail") {
-        return run_thumbnail(rt, line);
-    }
-    if fields::same_bytes(&label[..count], b"--softer") {
-        return run_softer(rt, line);
-    }
-    if !has_last(rt, 1) || arguments::is_option(&label[..count]) {
-        write_help(&mut rt.stderr());
-        return 0;
-    }
-    show(rt, Wanted::Picture, &label[..count], line)
 }
 
 fn main(rt: HostRuntime) {
     let mut line = [0u8; 864];
-    let count = run(&rt, &mut line);
-    pipes::write_front(&mut rt.stderr(), &line, count);
+    let mut line = Line::new(&mut line);
+    run(&rt, &mut line);
+    let _ = pipes::write_all(&mut rt.stderr(), line.text());
 }

@@ -1,43 +1,40 @@
--- Jobs that follow one another: where the first refusal ends it, and where each is done.
-use mathlib.Core.Path.{◌≡◌, ◌∙◌}
+-- What is made at the front of longer buffers, and where one is too short.
+use mathlib.Core.Path.{◌≡◌, refl}
 use mathlib.Core.List.{List, ◌++◌}
 use Prim.Native.Nat.{ℕ, ◌+◌, ◌-◌, ◌<◌, ◌≤◌}
 use native.Mathlib.Omega.{arith}
 use lib.IntN.{ℤ}
 use lib.ListN.{length, take, drop}
 use borrow.Author.Tests.{le-leb, lt-leb}
-use Rattle.sizes.proofs.Refusals.{refused_is, done_is}
-use Rattle.paper.specs.Jobs.{Forward, forward_job, Coding, coding_job, Writing, writing_job, Decoding, decoding_job, Inverse}
+use Rattle.std.specs.Prelude.{Option, Some, None, Result, Ok, Err}
+use Rattle.refusals.specs.declared.Refusal.{Refusal}
+use Rattle.refusals.specs.Numbers.{number_of}
+use Rattle.decoding.specs.declared.Settled.{Settled}
 use Rattle.paper.specs.Block.{Origin}
+use Rattle.desk.specs.declared.Unshown.{Unshown}
 use Rattle.desk.specs.declared.Wanted.{Wanted}
-use Rattle.desk.specs.Desk.{area_of, Encoding, encoding_of, encoding_in, halvings_of, shown_job, Rebuilding, rebuilding_of, rebuilding_in}
+use Rattle.desk.specs.Answers.{encoding_answer, settled_answer, rebuilding_answer}
+use Rattle.desk.specs.Desk.{area_of, Encoding, encoding_of, encoding_in, halvings_of, Rebuilding, rebuilding_of, rebuilding_in}
 
--- ---- a picture made a record
-module _ (k L : ℕ) (o : Origin) (picture label : List ℕ) (limit : ℕ) (numbers : List ℤ) (bytes room : List ℕ) (f : Forward) (e : forward_job k L picture numbers ≡ f) where
-  pub forward_refused : (f.refusal ≡ 0 → ⊥) → encoding_of k L o picture label limit numbers bytes room ≡ record { refusal = f.refusal; blocks = 0; numbers = f.numbers; bytes = bytes; room = room }
-  unfolding encoding_of
-  forward_refused h = rw e (refused_is f.refusal _ _ (omega arith))
+-- what an answer is, where the buffers are longer
+pub encoded_held : (r : Result ℕ Refusal) (numbers more : List ℤ) (bytes room : List ℕ) →
+    let e = encoding_answer r numbers bytes room in
+    record { refusal = e.refusal; blocks = e.blocks; numbers = e.numbers ++ more; bytes = e.bytes; room = e.room } ≡ encoding_answer r (numbers ++ more) bytes room
+encoded_held (Ok blocks) numbers more bytes room = refl
+encoded_held (Err r) numbers more bytes room = refl
 
-  module _ (z : f.refusal ≡ 0) (c : Coding) (d : coding_job k L f.numbers limit bytes ≡ c) where
-    pub code_refused : (c.refusal ≡ 0 → ⊥) → encoding_of k L o picture label limit numbers bytes room ≡ record { refusal = c.refusal; blocks = 0; numbers = f.numbers; bytes = c.bytes; room = room }
-    unfolding encoding_of
-    code_refused h = rw (e, d) (done_is f.refusal _ _ z ∙ refused_is c.refusal _ _ (omega arith))
+settled_held : (refusal : ℕ) (s : Option Settled) (numbers numbers_more : List ℤ) (picture picture_more : List ℕ) (room room_more : List ℤ) →
+    let q = settled_answer refusal s numbers picture room in
+    record { refusal = q.refusal; unfinished = q.unfinished; read = q.read; place = q.place; numbers = q.numbers ++ numbers_more; picture = q.picture ++ picture_more; room = q.room ++ room_more } ≡ settled_answer refusal s (numbers ++ numbers_more) (picture ++ picture_more) (room ++ room_more)
+settled_held refusal None numbers numbers_more picture picture_more room room_more = refl
+settled_held refusal (Some s) numbers numbers_more picture picture_more room room_more = refl
 
-    pub encoded_is : (w : Writing) → c.refusal ≡ 0 → writing_job k L c.n o label c.bytes c.written room ≡ w → encoding_of k L o picture label limit numbers bytes room ≡ record { refusal = w.refusal; blocks = w.blocks; numbers = f.numbers; bytes = c.bytes; room = w.room }
-    unfolding encoding_of
-    encoded_is w y g = rw (e, d, g) (done_is f.refusal _ _ z ∙ done_is c.refusal _ _ y)
+pub rebuilt_held : (r : Result Settled Unshown) (numbers numbers_more : List ℤ) (picture picture_more : List ℕ) (room room_more : List ℤ) →
+    let q = rebuilding_answer r numbers picture room in
+    record { refusal = q.refusal; unfinished = q.unfinished; read = q.read; place = q.place; numbers = q.numbers ++ numbers_more; picture = q.picture ++ picture_more; room = q.room ++ room_more } ≡ rebuilding_answer r (numbers ++ numbers_more) (picture ++ picture_more) (room ++ room_more)
+rebuilt_held (Ok s) numbers numbers_more picture picture_more room room_more = refl
+rebuilt_held (Err u) numbers numbers_more picture picture_more room room_more = settled_held (number_of u.refusal) u.settled numbers numbers_more picture picture_more room room_more
 
--- ---- bits made what is wanted
-module _ (wanted : Wanted) (k L n : ℕ) (bytes : List ℕ) (b : ℕ) (numbers : List ℤ) (picture : List ℕ) (room : List ℤ) (d : Decoding) (e : decoding_job k L n numbers bytes b ≡ d) where
-  pub decode_refused : (d.refusal ≡ 0 → ⊥) → rebuilding_of wanted k L n bytes b numbers picture room ≡ record { refusal = d.refusal; unfinished = d.unfinished; read = d.read; place = d.place; numbers = d.numbers; picture = picture; room = room }
-  unfolding rebuilding_of
-  decode_refused h = rw e (refused_is d.refusal _ _ (omega arith))
-
-  pub rebuilt_is : (i : Inverse) → d.refusal ≡ 0 → shown_job wanted k L d.unfinished d.place d.numbers picture room ≡ i → rebuilding_of wanted k L n bytes b numbers picture room ≡ record { refusal = i.refusal; unfinished = d.unfinished; read = d.read; place = d.place; numbers = d.numbers; picture = i.picture; room = i.room }
-  unfolding rebuilding_of
-  rebuilt_is i z f = rw (e, f) (done_is d.refusal _ _ z)
-
--- ---- in longer buffers
 module _ (k L : ℕ) (o : Origin) (input : List ℕ) (start : ℕ) (label : List ℕ) (limit : ℕ) (numbers : List ℤ) (bytes room : List ℕ) (area : ℕ) (a : area ≡ area_of k) where
   abbrev short : Encoding
   short = record { refusal = 3; blocks = 0; numbers = numbers; bytes = bytes; room = room }

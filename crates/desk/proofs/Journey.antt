@@ -18,6 +18,10 @@ use Rattle.paper.specs.Sizes.{judged}
 use Rattle.paper.specs.Block.{Origin}
 use Rattle.paper.specs.Jobs.{forward_job, coding_job, Writing, writing_job, Decoding, decoding_job, Inverse, reading_job}
 use Rattle.label.specs.Journey.{into_record, Seen, seen_by, out_of_record, softer_out_of_record, thumbnail_out_of_record}
+use Rattle.std.specs.Prelude.{Result, Ok}
+use Rattle.refusals.specs.declared.Refusal.{Refusal}
+use Rattle.decoding.specs.declared.Settled.{Settled}
+use Rattle.desk.specs.declared.Unshown.{Unshown}
 use Rattle.desk.specs.declared.Wanted.{Wanted}
 use Rattle.desk.specs.declared.Wanted.TheVariants.{Picture, Softer, Thumbnail}
 use Rattle.desk.specs.Desk.{area_of, Encoding, encoding_of, encoding_in, halvings_of, shown_job, Rebuilding, rebuilding_of, rebuilding_in}
@@ -62,7 +66,7 @@ encoding_in_lem k L o input start label limit numbers bytes room e p h =
 
 -- Where encode does not refuse, the blocks that it counts and leaves in the room are the record of the picture at its place.
 pub encode_into_record : (κs : Lfts 5) (a : ArgsD encode-fn.signature κs) (r : ResD encode-fn.signature κs) (s : AtExit (ended_of 5 encode-kinds.ps encode-kinds.r) κs)
-    → encode-contract.Post κs a r s → r.refusal ≡ 0 →
+    → encode-contract.Post κs a r s → (blocks : ℕ) → ◌≡◌ {A = Result ℕ Refusal} r (Ok blocks) →
     let k = a.0 in
     let L = a.1.0 in
     let o : Origin = record { edition = a.1.1.0; arm = a.1.1.1.0; mount = a.1.1.1.1.0 } in
@@ -73,8 +77,8 @@ pub encode_into_record : (κs : Lfts 5) (a : ArgsD encode-fn.signature κs) (r :
     let numbers = a.1.1.1.1.1.1.1.1.1.0.now in
     let bytes = a.1.1.1.1.1.1.1.1.1.1.0.now in
     let room = a.1.1.1.1.1.1.1.1.1.1.1.0.now in
-    into_record k L o label (take (area_of k) (drop start input)) limit (take (area_of k) numbers) bytes room ≡ record { refusal = 0; blocks = r.blocks; room = s.1.1.1.1.1.1.1.1.1.1.1.0.now }
-encode_into_record κs a r s x h = encoding_in_lem _ _ _ _ _ _ _ _ _ _ _ x h
+    into_record k L o label (take (area_of k) (drop start input)) limit (take (area_of k) numbers) bytes room ≡ record { refusal = 0; blocks = blocks; room = s.1.1.1.1.1.1.1.1.1.1.1.0.now }
+encode_into_record κs a r s x blocks h = encoding_in_lem _ _ _ _ _ _ _ _ _ _ _ (rw h at x) refl
 
 -- ---- out of a record
 one_refused : (a : ℕ) (d : Decoding) (i : Inverse) (picture : List ℕ) (room : List ℤ) →
@@ -132,7 +136,7 @@ rebuilding_out_of_record wanted label s payload numbers picture room q p h =
 -- journey.
 pub rebuild_out_of_record : (label s payload : List ℕ) → let read = reading_job s label payload in
     (κs : Lfts 4) (a : ArgsD rebuild-fn.signature κs) (r : ResD rebuild-fn.signature κs) (e : AtExit (ended_of 4 rebuild-kinds.ps rebuild-kinds.r) κs)
-    → rebuild-contract.Post κs a r e → r.refusal ≡ 0
+    → rebuild-contract.Post κs a r e → (settled : Settled) → ◌≡◌ {A = Result Settled Unshown} r (Ok settled)
     → a.1.0 ≡ read.k → a.1.1.0 ≡ read.L → a.1.1.1.0 ≡ read.n → a.1.1.1.1.0.now ≡ read.room → a.1.1.1.1.1.0 ≡ read.bits →
     let wanted = a.0 in
     let area = area_of read.k in
@@ -140,6 +144,6 @@ pub rebuild_out_of_record : (label s payload : List ℕ) → let read = reading_
     let numbers = a.1.1.1.1.1.1.0.now in
     let picture = a.1.1.1.1.1.1.1.0.now in
     let room = a.1.1.1.1.1.1.1.1.0.now in
-    Shown (journey_of wanted label s payload (take area numbers) (take shown picture) (take shown room)) area shown numbers e.1.1.1.1.1.1.0.now picture e.1.1.1.1.1.1.1.0.now r.unfinished r.place
-rebuild_out_of_record label s payload κs a r e x h k L n bytes b =
-    rebuilding_out_of_record a.0 label s payload _ _ _ _ (sym (λ i. rebuilding_in a.0 (k i) (L i) (n i) (bytes i) (b i) a.1.1.1.1.1.1.0.now a.1.1.1.1.1.1.1.0.now a.1.1.1.1.1.1.1.1.0.now) ∙ x) h
+    Shown (journey_of wanted label s payload (take area numbers) (take shown picture) (take shown room)) area shown numbers e.1.1.1.1.1.1.0.now picture e.1.1.1.1.1.1.1.0.now settled.unfinished settled.place
+rebuild_out_of_record label s payload κs a r e x settled h k L n bytes b =
+    rebuilding_out_of_record a.0 label s payload _ _ _ _ (sym (λ i. rebuilding_in a.0 (k i) (L i) (n i) (bytes i) (b i) a.1.1.1.1.1.1.0.now a.1.1.1.1.1.1.1.0.now a.1.1.1.1.1.1.1.1.0.now) ∙ (rw h at x)) refl

@@ -1,5 +1,4 @@
 -- Laws of the desk's programs.
-pub mod Findings
 pub mod Jobs
 pub mod Held
 pub mod Journey

@@ -1,13 +1,12 @@
 -- What the desk's programs do with the bytes they are given: which picture a PGM holds, a picture made a record, and bits
 -- made a picture, a softer one or a thumbnail of it. The jobs follow one another, and the first refusal ends it.
-use Rattle.std.specs.Prelude.{Bool, true, false, not, ◌&&◌, List, ◌++◌, ℕ, ◌+◌, ◌-◌, ◌^◌, leb, eqb, ℤ, take, drop, length}
+use Rattle.std.specs.Prelude.{Bool, true, false, not, ◌&&◌, List, ◌++◌, Option, Some, None, ℕ, ◌+◌, ◌-◌, ◌^◌, leb, eqb, ℤ, take, drop, length}
 use Rattle.paper.specs.Lists.{pick}
 use Rattle.paper.specs.Sizes.{unless, judged}
 use Rattle.paper.specs.Block.{Origin}
 use Rattle.paper.specs.Jobs.{forward_job, coding_job, writing_job, decoding_job, Inverse, inverse_job, display_job, thumbnail_job}
 use Rattle.pgm.specs.declared.Header.{Header}
 use Rattle.square_pgm.specs.Sides.{most_held, side_of}
-use Rattle.desk.specs.declared.Found.{Found}
 use Rattle.desk.specs.declared.Wanted.{Wanted}
 use Rattle.desk.specs.declared.Wanted.TheVariants.{Picture, Softer, Thumbnail}
 
@@ -17,20 +16,29 @@ area_of k = pick (leb k most_held) (4 ^ k) 0
 
 -- what is wrong with a PGM of so many bytes: 1 no header, 2 its greys do not run to 255, 3 no square that is held,
 -- 4 greys are missing; bytes behind the raster are not looked at, since more pictures may follow
-unfoldable pub fault_of : Header → ℕ → ℕ
-fault_of header bytes =
+unfoldable pub fault_of : Option Header → ℕ → ℕ
+fault_of None bytes = 1
+fault_of (Some header) bytes =
     let k = side_of header.width header.height in
-    unless 1 header.right
-    (unless 2 (eqb header.most 255)
+    unless 2 (eqb header.most 255)
     (unless 3 (not (eqb k 0))
-    (unless 4 (leb (header.start + area_of k) bytes) 0)))
+    (unless 4 (leb (header.start + area_of k) bytes) 0))
+
+-- the k of a header's square; 0 where there is none
+abbrev pub size_of : Option Header → ℕ
+size_of None = 0
+size_of (Some header) = side_of header.width header.height
+
+pub record Finding : Type 0 where
+  pub fault : ℕ
+  pub k : ℕ
 
 -- its k; 0 where something is wrong
-unfoldable pub found_of : Header → ℕ → Found
+unfoldable pub found_of : Option Header → ℕ → Finding
 found_of header bytes =
     judged (fault_of header bytes)
     (λ r. record { fault = r; k = 0 })
-    (record { fault = 0; k = side_of header.width header.height })
+    (record { fault = 0; k = size_of header })
 
 -- ---- a picture made a record, and what each buffer then holds
 pub record Encoding : Type 0 where

@@ -2,12 +2,16 @@
 // made a picture, a softer one or a thumbnail of it. All memory is lent.
 #![tactic(auto)]
 
-ghost use Rattle.std.specs.Prelude.{◌≡◌, ◌-◌};
+ghost use Rattle.std.specs.Prelude.{◌≡◌, ◌-◌, None, IfOk};
+ghost use Rattle.std.specs.Option.{ForSome};
+ghost use Rattle.desk.specs.Answers.{found_answer, encoding_answer, rebuilding_answer};
 ghost use Rattle.desk.specs.Desk.{area_of, found_of, encoding_of, encoding_in, halvings_of, wants_softer, shown_job, rebuilding_of, rebuilding_in};
+ghost use Rattle.transform.specs.Answers.{inverse_answer};
 
 use decoding::Settled;
 use pgm::Header;
-use record::Blocks;
+use refusals::Refusal;
+use sizes::Size;
 use square_pgm::MOST_HELD;
 
 // What the programs hold: the greys of the largest square, the most blocks of its record in any edition, their bytes and
@@ -20,11 +24,23 @@ pub const RECORD_BYTES: usize = block::BLOCK * MOST_BLOCKS;
 
 pub const PAYLOAD_ROOM: usize = block::ROOM * MOST_BLOCKS;
 
-// What is wrong with a PGM, and its picture's k.
+// The picture of a PGM: its k, and the place of its greys.
 #[derive(Clone, Copy)]
 pub struct Found {
-    pub fault: u32,
     pub k: u32,
+    pub start: usize,
+}
+
+// What is wrong with a PGM.
+#[derive(Clone, Copy, Debug, PartialEq, Eq)]
+pub enum Fault {
+    NoHeader,
+    // Its greys run to another number than 255.
+    Greys(u32),
+    // It is no square with a side of 8, 16, 32 or 64.
+    Sides(u32, u32),
+    // Greys are missing: so many bytes stand behind the header, if any do, and the picture has so many greys.
+    Missing(Option<usize>, usize),
 }
 
 // What is wanted of a record: its picture, a softer one for the eye, or a thumbnail of it, with the side halved so often.
@@ -35,41 +51,61 @@ pub enum Wanted {
     Thumbnail(u32),
 }
 
-// The greys of a square, up to the largest that the programs hold; 0 beyond.
+// Why nothing is shown, and what the bits had settled before, where they were decoded.
+#[derive(Clone, Copy)]
+pub struct Unshown {
+    pub refusal: Refusal,
+    pub settled: Option<Settled>,
+}
+
+impl From<Refusal> for Unshown {
+    ghost from_gives = { λ r u. u ≡ record { refusal = r; settled = None } };
+
+    fn from(refusal: Refusal) -> Unshown {
+        Unshown {
+            refusal,
+            settled: None,
+        }
+    }
+}
+
+// The greys of a square, up to the largest that the programs hold. 0 beyond is no sign: the definition `area_of` has it, and the
+// front of a buffer that long is lent to a job that refuses such a k.
+#[tactic(auto, unfolding(crate::specs::Desk::area_of))]
 pub fn area(k: u32) -> usize
     ensures { result ≡ area_of k }
 {
     if MOST_HELD < k {
-        return 0;
+        0
+    } else {
+        Size::new(k).area()
     }
-    sizes::area(k)
 }
 
-// The picture of a PGM of so many bytes. Fault is 0, or 1 no header, 2 greys that do not run to 255, 3 no square with
-// a side of 8, 16, 32 or 64, 4 greys missing.
-pub fn find(header: Header, bytes: usize) -> Found
-    ensures { result ≡ found_of header bytes }
+// The picture of a PGM of so many bytes.
+#[tactic(auto, unfolding(crate::specs::Desk::found_of, crate::specs::Desk::fault_of))]
+pub fn find(header: Option<Header>, bytes: usize) -> Result<Found, Fault>
+    ensures found { found_answer result ≡ found_of header bytes }
+    ensures start { IfOk result (λ found. ForSome header (λ h. found.start ≡ h.start)) }
 {
-    if !header.right {
-        return Found { fault: 1, k: 0 };
-    }
+    let header = header.ok_or(Fault::NoHeader)?;
     if header.most != 255 {
-        return Found { fault: 2, k: 0 };
+        return Err(Fault::Greys(header.most));
     }
-    let k = square_pgm::side_of(header.width, header.height);
-    if k == 0 {
-        return Found { fault: 3, k: 0 };
+    let sides = Fault::Sides(header.width, header.height);
+    let k = square_pgm::side_of(header.width, header.height).ok_or(sides)?;
+    let came = bytes.checked_sub(header.start);
+    if came.is_none_or(|came| came < area(k)) {
+        return Err(Fault::Missing(came, area(k)));
     }
-    if bytes < header.start {
-        return Found { fault: 4, k: 0 };
-    }
-    if bytes - header.start < area(k) {
-        return Found { fault: 4, k: 0 };
-    }
-    Found { fault: 0, k }
+    Ok(Found {
+        k,
+        start: header.start,
+    })
 }
 
 // A picture made a record, at the front of the room.
+#[tactic(auto, unfolding(crate::specs::Desk::encoding_of))]
 fn encoded(
     k: u32,
     levels: u32,
@@ -82,30 +118,19 @@ fn encoded(
     numbers: &mut [i32],
     bytes: &mut [u8],
     room: &mut [u8],
-) -> Blocks
-    ensures { encoding_of k levels (record { edition = edition; arm = arm; mount = mount }) picture.now label.now limit numbers.old bytes.old room.old ≡ record { refusal = result.refusal; blocks = result.blocks; numbers = numbers.new; bytes = bytes.new; room = room.new } }
+) -> Result<usize, Refusal>
+    ensures { encoding_of k levels (record { edition = edition; arm = arm; mount = mount }) picture.now label.now limit numbers.old bytes.old room.old ≡ encoding_answer result numbers.new bytes.new room.new }
 {
-    let planes = label::forward(k, levels, picture, numbers);
-    if planes.refusal != 0 {
-        return Blocks {
-            refusal: planes.refusal,
-            blocks: 0,
-        };
-    }
-    let written = label::code(k, levels, numbers, limit, bytes);
-    if written.refusal != 0 {
-        return Blocks {
-            refusal: written.refusal,
-            blocks: 0,
-        };
-    }
+    label::forward(k, levels, picture, numbers)?;
+    let written = label::code(k, levels, numbers, limit, bytes)?;
     let n = written.n;
     let b = written.bits;
     label::write(k, levels, n, edition, arm, mount, label, bytes, b, room)
 }
 
-// The picture of side 2 ^ k at place `start` of the input made a record, at the front of the room. The numbers' buffer may
-// be longer than the picture; refusal 3 where it is shorter, or the input.
+// The picture of side 2 ^ k at place `start` of the input made a record, at the front of the room: its count of blocks. The
+// numbers' buffer may be longer than the picture; where it is shorter, or the input, that is refused by the length. Edition, arm
+// and mount stay numbers, as `record::write`'s: what it answers is promised of every number (`encoding_in`).
 pub fn encode(
     k: u32,
     levels: u32,
@@ -119,27 +144,12 @@ pub fn encode(
     numbers: &mut [i32],
     bytes: &mut [u8],
     room: &mut [u8],
-) -> Blocks
-    ensures { encoding_in k levels (record { edition = edition; arm = arm; mount = mount }) input.now start label.now limit numbers.old bytes.old room.old ≡ record { refusal = result.refusal; blocks = result.blocks; numbers = numbers.new; bytes = bytes.new; room = room.new } }
+) -> Result<usize, Refusal>
+    ensures { encoding_in k levels (record { edition = edition; arm = arm; mount = mount }) input.now start label.now limit numbers.old bytes.old room.old ≡ encoding_answer result numbers.new bytes.new room.new }
 {
     let area = area(k);
-    if input.len() < start {
-        return Blocks {
-            refusal: 3,
-            blocks: 0,
-        };
-    }
-    if input.len() - start < area {
-        return Blocks {
-            refusal: 3,
-            blocks: 0,
-        };
-    }
-    if numbers.len() < area {
-        return Blocks {
-            refusal: 3,
-            blocks: 0,
-        };
+    if input.len() < start || input.len() - start < area || numbers.len() < area {
+        return Err(Refusal::Length);
     }
     let end = start + area;
     encoded(
@@ -162,8 +172,7 @@ pub fn halvings(wanted: Wanted) -> u32
     ensures { result ≡ halvings_of wanted }
 {
     match wanted {
-        Wanted::Picture => 0,
-        Wanted::Softer => 0,
+        Wanted::Picture | Wanted::Softer => 0,
         Wanted::Thumbnail(halvings) => halvings,
     }
 }
@@ -172,33 +181,33 @@ pub fn halvings(wanted: Wanted) -> u32
 pub fn wants_softer(wanted: Wanted) -> bool
     ensures { result ≡ wants_softer wanted }
 {
-    match wanted {
-        Wanted::Picture => false,
-        Wanted::Softer => true,
-        Wanted::Thumbnail(_) => false,
-    }
+    matches!(wanted, Wanted::Softer)
 }
 
 // The greys of what is wanted of a picture of side 2 ^ k.
 fn shown_area(wanted: Wanted, k: u32) -> usize
     ensures { result ≡ area_of (k - halvings_of wanted) }
 {
-    area(sizes::less(k, halvings(wanted)))
+    area(k.saturating_sub(halvings(wanted)))
 }
 
-// The numbers made what is wanted, where so many planes are unfinished and the cut fell at `place`.
+// The numbers made what is wanted, by what was settled of them.
 fn shown(
     wanted: Wanted,
     k: u32,
     levels: u32,
-    unfinished: u32,
-    place: usize,
+    settled: Settled,
     numbers: &[i32],
     picture: &mut [u8],
     room: &mut [i32],
-) -> u32
-    ensures { shown_job wanted k levels unfinished place numbers.now picture.old room.old ≡ record { refusal = result; picture = picture.new; room = room.new } }
+) -> Result<(), Refusal>
+    ensures { shown_job wanted k levels settled.unfinished settled.place numbers.now picture.old room.old ≡ inverse_answer result picture.new room.new }
 {
+    let Settled {
+        unfinished,
+        place,
+        ..
+    } = settled;
     match wanted {
         Wanted::Picture => label::inverse(k, levels, numbers, picture, room),
         Wanted::Softer => label::display(k, levels, unfinished, place, numbers, picture, room),
@@ -209,6 +218,7 @@ fn shown(
 }
 
 // The first b bits made what is wanted.
+#[tactic(auto, unfolding(crate::specs::Desk::rebuilding_of))]
 fn rebuilt(
     wanted: Wanted,
     k: u32,
@@ -219,33 +229,21 @@ fn rebuilt(
     numbers: &mut [i32],
     picture: &mut [u8],
     room: &mut [i32],
-) -> Settled
-    ensures { rebuilding_of wanted k levels n bytes.now b numbers.old picture.old room.old ≡ record { refusal = result.refusal; unfinished = result.unfinished; read = result.read; place = result.place; numbers = numbers.new; picture = picture.new; room = room.new } }
+) -> Result<Settled, Unshown>
+    ensures { rebuilding_of wanted k levels n bytes.now b numbers.old picture.old room.old ≡ rebuilding_answer result numbers.new picture.new room.new }
 {
-    let settled = label::decode(k, levels, n, numbers, bytes, b);
-    if settled.refusal != 0 {
-        return settled;
-    }
-    let refusal = shown(
-        wanted,
-        k,
-        levels,
-        settled.unfinished,
-        settled.place,
-        numbers,
-        picture,
-        room,
-    );
-    Settled {
-        refusal,
-        unfinished: settled.unfinished,
-        read: settled.read,
-        place: settled.place,
+    let settled = label::decode(k, levels, n, numbers, bytes, b)?;
+    match shown(wanted, k, levels, settled, numbers, picture, room) {
+        Ok(()) => Ok(settled),
+        Err(refusal) => Err(Unshown {
+            refusal,
+            settled: Some(settled),
+        }),
     }
 }
 
-// The first b bits made what is wanted of a picture of side 2 ^ k, at the front of buffers that may be longer; refusal 3
-// where one is shorter.
+// The first b bits made what is wanted of a picture of side 2 ^ k, at the front of buffers that may be longer; where one is
+// shorter, that is refused by the length.
 pub fn rebuild(
     wanted: Wanted,
     k: u32,
@@ -256,34 +254,13 @@ pub fn rebuild(
     numbers: &mut [i32],
     picture: &mut [u8],
     room: &mut [i32],
-) -> Settled
-    ensures { rebuilding_in wanted k levels n bytes.now b numbers.old picture.old room.old ≡ record { refusal = result.refusal; unfinished = result.unfinished; read = result.read; place = result.place; numbers = numbers.new; picture = picture.new; room = room.new } }
+) -> Result<Settled, Unshown>
+    ensures { rebuilding_in wanted k levels n bytes.now b numbers.old picture.old room.old ≡ rebuilding_answer result numbers.new picture.new room.new }
 {
     let shown = shown_area(wanted, k);
     let area = area(k);
-    if numbers.len() < area {
-        return Settled {
-            refusal: 3,
-            unfinished: 0,
-            read: 0,
-            place: 0,
-        };
-    }
-    if picture.len() < shown {
-        return Settled {
-            refusal: 3,
-            unfinished: 0,
-            read: 0,
-            place: 0,
-        };
-    }
-    if room.len() < shown {
-        return Settled {
-            refusal: 3,
-            unfinished: 0,
-            read: 0,
-            place: 0,
-        };
+    if numbers.len() < area || picture.len() < shown || room.len() < shown {
+        return Err(Refusal::Length.into());
     }
     rebuilt(
         wanted,

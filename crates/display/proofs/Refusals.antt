@@ -1,8 +1,8 @@
--- What a refusal's number says of what was given for a softer picture, and what the job then leaves and answers.
+-- What a refusal says of what was given for a softer picture, and what the job then leaves and answers.
 use mathlib.Core.Path.{◌≡◌, sym, ◌∙◌}
 use mathlib.Core.Bool.{Bool, true, false}
 use mathlib.Core.List.{List}
-use Prim.Native.Nat.{ℕ, ◌^◌, ◌<◌, ◌≤◌}
+use Prim.Native.Nat.{ℕ, ◌^◌, ◌≤◌}
 use native.Mathlib.Omega.{arith}
 use lib.Dec.{ltb}
 use lib.IntN.{ℤ}
@@ -11,49 +11,52 @@ use Rattle.paper.specs.Sizes.{most_size, most_levels, most_planes, planes_in, nu
 use Rattle.paper.specs.Square.{greys_of, pictured}
 use Rattle.paper.specs.Softer.{softened, softer_of}
 use Rattle.paper.specs.Jobs.{inverse_refusal, display_refusal, display_job}
+use Rattle.refusals.specs.declared.Refusal.{Refusal}
+use Rattle.refusals.specs.Numbers.{number_of}
+use Rattle.refusals.proofs.Numbers.{numbered}
 use Rattle.sizes.proofs.Ranges.{planes_few}
 use Rattle.sizes.proofs.Refusals.{row_passed}
-use Rattle.transform.proofs.Refusals.{picture_rows, inverse_accepted, job_done}
+use Rattle.transform.proofs.Refusals.{picture_rows, inverse_accepted, job_refused, job_done}
 
 -- rows 5 and 11
 abbrev later : ℕ → ℕ → ℕ → ℕ
 later k p place = unless 5 (planes_in p) (unless 11 (ltb place (4 ^ k)) 0)
 
 -- ---- the rows, as they are judged one after the other
-module _ (k L p place : ℕ) (numbers : List ℤ) (picture : List ℕ) (room : List ℤ) (n : ℕ) (e : n ≡ inverse_refusal k L numbers picture room) where
-  pub picture_judged : 0 < n → n ≡ display_refusal k L p place numbers picture room
+module _ (k L p place : ℕ) (numbers : List ℤ) (picture : List ℕ) (room : List ℤ) where
+  pub picture_judged : (r : Refusal) → number_of r ≡ inverse_refusal k L numbers picture room → number_of r ≡ display_refusal k L p place numbers picture room
   unfolding inverse_refusal display_refusal
-  picture_judged h = e ∙ sym ((picture_rows k L numbers picture room).stand (later k p place) (rw e at h))
+  picture_judged r e = e ∙ sym ((picture_rows k L numbers picture room).stand (later k p place) (omega (arith, e, numbered r)))
 
-  module _ (h : n ≤ 0) where
-    none : inverse_refusal k L numbers picture room ≡ 0
-    none = let z : n ≡ 0 = omega arith in sym e ∙ z
-
+  module _ (none : 0 ≡ inverse_refusal k L numbers picture room) where
     pub planes_judged : planes_in p ≡ false → 5 ≡ display_refusal k L p place numbers picture room
     unfolding inverse_refusal display_refusal
-    planes_judged f = rw ((picture_rows k L numbers picture room).leave (later k p place) none, f)
+    planes_judged f = rw ((picture_rows k L numbers picture room).leave (later k p place) (sym none), f)
 
     pub place_judged : planes_in p ≡ true → (b : Bool) → ltb place (length numbers) ≡ b → unless 11 b 0 ≡ display_refusal k L p place numbers picture room
     unfolding inverse_refusal display_refusal
-    place_judged f b q = rw ((picture_rows k L numbers picture room).leave (later k p place) none, f, ← (inverse_accepted k L numbers picture room n e h).1.1.1.0, q)
+    place_judged f b q = rw ((picture_rows k L numbers picture room).leave (later k p place) (sym none), f, ← (inverse_accepted k L numbers picture room none).1.1.1.0, q)
 
 -- ---- what no refusal says
-module _ (k L p place : ℕ) (numbers : List ℤ) (picture : List ℕ) (room : List ℤ) (n : ℕ) (e : n ≡ display_refusal k L p place numbers picture room) (h : n ≤ 0) where
-  passed : display_refusal k L p place numbers picture room ≡ 0
-  passed = let z : n ≡ 0 = omega arith in sym e ∙ z
-
+module _ (k L p place : ℕ) (numbers : List ℤ) (picture : List ℕ) (room : List ℤ) (passed : 0 ≡ display_refusal k L p place numbers picture room) where
   none_first : inverse_refusal k L numbers picture room ≡ 0
   unfolding inverse_refusal display_refusal
-  none_first = (picture_rows k L numbers picture room).passed (later k p place) passed
+  none_first = (picture_rows k L numbers picture room).passed (later k p place) (sym passed)
 
   pub accepted : (k ≤ most_size) × ((L ≤ most_levels) × ((L ≤ k) × ((length numbers ≡ 4 ^ k) × ((numbers_in numbers ≡ true) × ((length picture ≡ 4 ^ k) × (length room ≡ 4 ^ k))))))
-  accepted = inverse_accepted k L numbers picture room 0 (sym none_first) (omega arith)
+  accepted = inverse_accepted k L numbers picture room (sym none_first)
 
   pub planes_accepted : p ≤ most_planes
   unfolding inverse_refusal display_refusal
-  planes_accepted = planes_few p (row_passed 4 (planes_in p) _ (sym ((picture_rows k L numbers picture room).leave (later k p place) none_first) ∙ passed))
+  planes_accepted = planes_few p (row_passed 4 (planes_in p) _ (sym ((picture_rows k L numbers picture room).leave (later k p place) none_first) ∙ sym passed))
 
   pub display_done : (seen : List ℕ) (greys : List ℤ) → seen ≡ pictured k (greys_of k L (softened p place numbers)) → greys ≡ greys_of k L (softened p place numbers)
       → display_job k L p place numbers picture room ≡ record { refusal = 0; picture = seen; room = greys }
   unfolding display_job softer_of
-  display_done seen greys f g = job_done (display_refusal k L p place numbers picture room) n _ _ e h ∙ rw (f, g)
+  display_done seen greys f g = job_done (display_refusal k L p place numbers picture room) _ _ passed ∙ rw (f, g)
+
+-- and what a refusal leaves
+pub display_refused : (k L p place : ℕ) (numbers : List ℤ) (picture : List ℕ) (room : List ℤ) (r : Refusal) → number_of r ≡ display_refusal k L p place numbers picture room
+    → display_job k L p place numbers picture room ≡ record { refusal = number_of r; picture = picture; room = room }
+unfolding display_job
+display_refused k L p place numbers picture room r e = job_refused _ _ _ _ e (numbered r)

@@ -2,8 +2,9 @@
 use mathlib.Core.Path.{◌≡◌, refl, sym}
 use mathlib.Core.Bool.{Bool, true, false}
 use mathlib.Core.List.{List}
-use Prim.Native.Nat.{ℕ, zero, suc, ◌+◌, ◌-◌, ◌^◌, ◌<◌, ◌≤◌}
+use Prim.Native.Nat.{ℕ, zero, suc, ◌+◌, ◌*◌, ◌-◌, ◌/◌, ◌%◌, ◌^◌, ◌<◌, ◌≤◌}
 use native.Mathlib.Omega.{arith}
+use native.Mathlib.Nat.{pow-succ'}
 use lib.Pow.{pow_mono}
 use lib.ListN.{length}
 use lib.Dec.{eqb}
@@ -40,14 +41,12 @@ moved_within h x l w = go (eqb (nat_abs x) 0)
     go false = record { size = omega (arith, nat_abs_signed (negative x) (nat_abs x + h), w.size) }
 
 -- ---- the half, and a number moved, as the code has them
-pub half_none : (u : ℕ) → u ≡ 0 → 0 ≡ half_of u
+pub half_is : (u : ℕ) → u ≤ most_planes → 1 * 2 ^ u % 2 ^ 32 / 2 ≡ half_of u
 unfolding half_of
-half_none u e = rw e
-
-pub half_some : (u t : ℕ) → (u ≡ 0 → ⊥) → t ≡ 2 ^ (u - 1) → t ≡ half_of u
-unfolding half_of
-half_some zero t h e = absurd (h refl)
-half_some (suc u) t h e = let q : suc u - 1 ≡ u = omega arith in rw q at e
+half_is zero h = refl
+half_is (suc u) h =
+    let l : 2 ^ u ≤ 2 ^ 17 = pow_mono (let k : u ≤ 17 = omega arith in k) in
+    rw (pow-succ' 2 u) (omega arith)
 
 pub moved_grown : (h : ℕ) (x : ℤ) → (x ≡ pos 0 → ⊥) → signed (negative x) (nat_abs x + h) ≡ moved_up h x
 moved_grown h x k = sym (moved_up_is h x (some x k))

@@ -1,6 +1,6 @@
 // The job display: a softer picture, for the eye alone. Each number that isn't zero is shown moved up in magnitude by half of what is
 // still unknown about it; the stored numbers stay. `unfinished` is p, `place` where the cut fell, as decoding gives them.
-// It takes whatever it is given: what is out of range is refused by its number and nothing lent is changed.
+// It takes whatever it is given: what is out of range is refused and nothing lent is changed.
 #![tactic(auto)]
 
 ghost use Rattle.std.specs.Prelude.{◌≡◌, true, ◌≤◌, length};
@@ -9,9 +9,14 @@ ghost use Rattle.paper.specs.Walk.{unread_at};
 ghost use Rattle.paper.specs.Softer.{half_of, moved_up, softened};
 ghost use Rattle.paper.specs.Jobs.{display_refusal, display_job};
 ghost use Rattle.integer_laws.specs.Order.{Within};
+ghost use Rattle.refusals.specs.Numbers.{refusal_of};
+ghost use Rattle.transform.specs.Answers.{inverse_answer};
 
-// Refusals 1, 2, 3, 4, 5 and 11, lowest first, or 0. Only the stored numbers are judged by 4.
-fn refusal(
+use refusals::Refusal;
+use sizes::Size;
+
+// Refusals 1, 2, 3, 4, 5 and 11, lowest first. Only the stored numbers are judged by 4.
+fn judge_display(
     k: u32,
     levels: u32,
     unfinished: u32,
@@ -19,17 +24,17 @@ fn refusal(
     numbers: &[i32],
     picture: &[u8],
     room: &[i32],
-) -> u32
-    ensures { result ≡ display_refusal k levels unfinished place numbers.now picture.now room.now }
+) -> Result<(), Refusal>
+    ensures { refusal_of result ≡ display_refusal k levels unfinished place numbers.now picture.now room.now }
 {
-    let r = transform::inverse_refusal(k, levels, numbers, picture, room);
-    if r > 0 {
-        return r;
-    }
+    transform::judge_inverse(k, levels, numbers, picture, room)?;
     if !sizes::planes_in(unfinished) {
-        return 5;
+        return Err(Refusal::Planes);
     }
-    if place < numbers.len() { 0 } else { 11 }
+    if place >= numbers.len() {
+        return Err(Refusal::Place);
+    }
+    Ok(())
 }
 
 // The low bits of number i that are unread.
@@ -37,7 +42,7 @@ fn unread_at(unfinished: u32, place: usize, i: usize) -> u32
     ensures { result ≡ unread_at unfinished place i }
 {
     if i < place {
-        return sizes::less(unfinished, 1);
+        return unfinished.saturating_sub(1);
     }
     unfinished
 }
@@ -47,10 +52,7 @@ fn half_of(u: u32) -> u32
     requires { u ≤ most_planes }
     ensures { result ≡ half_of u }
 {
-    if u == 0 {
-        return 0;
-    }
-    scan::threshold(u - 1)
+    (1 << u) / 2
 }
 
 // A number of which u bits are unread, as it is shown.
@@ -72,12 +74,8 @@ fn soften(unfinished: u32, place: usize, numbers: &[i32], out: &mut [i32])
     requires out_len { length out.old ≡ length numbers.now }
     ensures { out.new ≡ softened unfinished place numbers.now }
 {
-    let mut i = 0;
-    while i < out.len() {
-        let z = places::z_place(i);
-        let x = places::number_at(numbers, z);
-        places::set_number(out, z, moved_up(x, unread_at(unfinished, place, i)));
-        i += 1;
+    for (i, x) in out.iter_mut().enumerate() {
+        *x = moved_up(numbers[i], unread_at(unfinished, place, i));
     }
 }
 
@@ -90,14 +88,11 @@ pub fn display(
     numbers: &[i32],
     picture: &mut [u8],
     room: &mut [i32],
-) -> u32
-    ensures { display_job k levels unfinished place numbers.now picture.old room.old ≡ record { refusal = result; picture = picture.new; room = room.new } }
+) -> Result<(), Refusal>
+    ensures { display_job k levels unfinished place numbers.now picture.old room.old ≡ inverse_answer result picture.new room.new }
 {
-    let refusal = refusal(k, levels, unfinished, place, numbers, picture, room);
-    if refusal > 0 {
-        return refusal;
-    }
+    judge_display(k, levels, unfinished, place, numbers, picture, room)?;
     soften(unfinished, place, numbers, room);
-    transform::show(k, levels, picture, room);
-    0
+    transform::show(Size::new(k), levels, picture, room);
+    Ok(())
 }

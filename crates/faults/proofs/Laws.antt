@@ -1,28 +1,20 @@
--- What ended the run, and that it ends within its room, so that it can be lent on.
-use mathlib.Core.Path.{◌≡◌}
-use mathlib.Core.Bool.{not}
+-- What is said of a block ends within its room.
+use mathlib.Core.Path.{◌≡◌, refl, sym, ◌∙◌}
+use mathlib.Core.Bool.{Bool, true, false, not}
 use mathlib.Core.List.{List}
-use Prim.Native.Nat.{ℕ, ◌≤◌}
+use Prim.Native.Nat.{ℕ, ◌<◌}
 use native.Mathlib.Omega.{arith}
 use lib.Dec.{leb, eqb}
-use borrow.Author.Tests.{eq-eqb, ne_eqb}
 use Rattle.paper.specs.Block.{edition_of, label_of, number_of, arm_of, mount_of, same_bytes}
 use Rattle.paper.specs.Record.{whole_blocks, block_at}
+use borrow.Author.Tests.{eq-eqb, leb-true}
+use Rattle.paper.specs.Lists.{pick}
 use Rattle.pgm.specs.Ascii.{ascii}
-use Rattle.words.specs.Line.{Line, on, ◌puts◌, figure}
+use Rattle.words.specs.Line.{Line, ◌puts◌}
 use Rattle.words.proofs.Laws.{Inside, puts_inside, pick_inside}
-use Rattle.faults.specs.Faults.{fault, another, labelled, form_of, unlike, elsewhere, shot_elsewhere, reasons, told, ended_of}
+use Rattle.faults.specs.Faults.{fault, another, labelled, form_of, unlike, elsewhere, shot_elsewhere, reasons, told}
 
-module _ (number : ℕ) (s label : List ℕ) (i : ℕ) (line : Line) where
-  pub ended_none : number ≡ 0 → ended_of number s label i line ≡ line
-  unfolding ended_of
-  ended_none e = rw (eq-eqb number 0 e)
-
-  pub ended_told : (number ≡ 0 → ⊥) → ended_of number s label i line ≡ told number s label i (line puts ascii "  block " puts figure i puts ascii " ended the run: it is ")
-  unfolding ended_of
-  ended_told e = rw (ne_eqb number 0 e)
-
--- ---- the reasons, one behind the other
+-- ---- arm and mount, one behind the other
 module _ (first block : List ℕ) (line : Line) where
   pub elsewhere_is : (arm arm0 mount mount0 : ℕ) (armed last : Line) → arm ≡ arm_of block → arm0 ≡ arm_of first → mount ≡ mount_of block → mount0 ≡ mount_of first
       → another (ascii "    its arm is ") arm arm0 line ≡ armed → another (ascii "    its mount is ") mount mount0 armed ≡ last
@@ -30,26 +22,19 @@ module _ (first block : List ℕ) (line : Line) where
   unfolding elsewhere
   elsewhere_is arm arm0 mount mount0 armed last a a0 m m0 h k = rw (← a, ← a0, ← m, ← m0, h) k
 
-  -- only of a block of block 0's edition
-  pub shot_other : (edition_of block ≡ edition_of first → ⊥) → shot_elsewhere first block line ≡ line
-  unfolding shot_elsewhere
-  shot_other h = rw (ne_eqb (edition_of block) (edition_of first) h)
+-- ---- a whole block out of its turn: its reasons, behind the meaning of 10
+module _ (s label : List ℕ) (i : ℕ) (line : Line) where
+  pub told_turn : {number : ℕ} {first block : List ℕ} {said out : Line} → number ≡ 10 → i < whole_blocks s → first ≡ block_at s 0 → block ≡ block_at s i
+      → line puts fault number i ≡ said → reasons first label i block said ≡ out → told number s label i line ≡ out
+  unfolding told
+  told_turn {number} {first} {block} {said} {out} turn whole f b e k =
+      rw (eq-eqb number 10 turn) (there (leb (whole_blocks s) i) refl)
+    where
+      there : (short : Bool) → leb (whole_blocks s) i ≡ short → pick short (line puts fault number i) (reasons (block_at s 0) label i (block_at s i) (line puts fault number i)) ≡ out
+      there true h = absurd (omega (arith, leb-true (whole_blocks s) i h))
+      there false h = (λ t. reasons (sym f t) label i (sym b t) (e t)) ∙ k
 
-  pub shot_alike : (last : Line) → edition_of block ≡ edition_of first → elsewhere first block line ≡ last → shot_elsewhere first block line ≡ last
-  unfolding shot_elsewhere
-  shot_alike last h e = rw (eq-eqb (edition_of block) (edition_of first) h) e
-
-  pub reasons_are : (label : List ℕ) (i number : ℕ) (turn name edition form last : Line) → number ≡ number_of block
-      → another (ascii "    its number is ") number i line ≡ turn
-      → labelled (label_of block) label turn ≡ name
-      → another (ascii "    its edition is ") (edition_of block) (edition_of first) name ≡ edition
-      → unlike (form_of block) (form_of first) edition ≡ form
-      → shot_elsewhere first block form ≡ last
-      → reasons first label i block line ≡ last
-  unfolding reasons
-  reasons_are label i number turn name edition form last n a b c d e = rw (← n, a, b, c, d) e
-
--- ---- what is said ends within its room, so that it can be lent on
+-- ---- what is said ends within its room
 module _ (line : Line) (h : Inside line) where
   another_inside : (its : List ℕ) (found wanted : ℕ) → Inside (another its found wanted line)
   unfolding another
@@ -73,14 +58,8 @@ reasons_inside line h first label i block =
     let arm = another_inside _ form (ascii "    its arm is ") (arm_of block) (arm_of first) in
     pick_inside (not (eqb (edition_of block) (edition_of first))) _ _ form (another_inside _ arm (ascii "    its mount is ") (mount_of block) (mount_of first))
 
-told_inside : (line : Line) → Inside line → (number : ℕ) (s label : List ℕ) (i : ℕ) → Inside (told number s label i line)
+pub told_inside : (line : Line) → Inside line → (number : ℕ) (s label : List ℕ) (i : ℕ) → Inside (told number s label i line)
 unfolding told
 told_inside line h number s label i =
     let said = puts_inside line (fault number i) h in
     pick_inside (eqb number 10) _ _ (pick_inside (leb (whole_blocks s) i) _ _ said (reasons_inside _ said (block_at s 0) label i (block_at s i))) said
-
-pub ended_inside : (bytes : List ℕ) (number : ℕ) (s label : List ℕ) (i : ℕ) → Inside (ended_of number s label i (on bytes 0))
-unfolding ended_of
-ended_inside bytes number s label i =
-    let h : Inside (on bytes 0) = omega arith in
-    pick_inside (eqb number 0) (on bytes 0) _ h (told_inside _ (puts_inside _ _ (puts_inside _ _ (puts_inside (on bytes 0) _ h))) number s label i)

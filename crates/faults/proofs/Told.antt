@@ -1,11 +1,10 @@
--- What is said of a block is settled by the contracts themselves, as the checker reads them from src/lib.rt (`Post` of their `Reads`): the room
--- at exit and the count answered are the definition's.
+-- What is said of a block is settled by the contracts themselves, as the checker reads them from src/lib.rt (`Post` of their `Reads`): the line at
+-- exit is the definition's, whatever the room that it has.
 use mathlib.Core.Path.{◌≡◌}
 use denote.Triple.Clauses.{AtExit}
 use contract.Lifetimes.{Lfts}
 use borrow.Fn.World.{ArgsD, ResD}
 use borrow.Fn.Kinds.{ended_of as endedAt}
-use Rattle.words.specs.Line.{on}
 use Rattle.faults.specs.Faults.{ended_of, refused_of}
 use Rattle.faults.specs.contracts.ended as ended-fn
 use Rattle.faults.proofs.ended.Kinds as ended-kinds
@@ -14,12 +13,12 @@ use Rattle.faults.specs.contracts.refused as refused-fn
 use Rattle.faults.proofs.refused.Kinds as refused-kinds
 use Rattle.faults.proofs.refused.Reads as refused-contract
 
-pub ended_says : (κs : Lfts 3) (a : ArgsD ended-fn.signature κs) (r : ResD ended-fn.signature κs) (s : AtExit (endedAt 3 ended-kinds.ps ended-kinds.r) κs)
+pub ended_says : (κs : Lfts 4) (a : ArgsD ended-fn.signature κs) (r : ResD ended-fn.signature κs) (s : AtExit (endedAt 4 ended-kinds.ps ended-kinds.r) κs)
     → ended-contract.Post κs a r s
-    → ended_of a.0 a.1.0.now a.1.1.0.now a.1.1.1.0 (on a.1.1.1.1.0.now 0) ≡ on s.1.1.1.1.0.now r
+    → ended_of a.0 a.1.0.now a.1.1.0.now a.1.1.1.0 a.1.1.1.1.0.now ≡ s.1.1.1.1.0.now
 ended_says κs a r s x = x.0
 
-pub refused_says : (κs : Lfts 3) (a : ArgsD refused-fn.signature κs) (r : ResD refused-fn.signature κs) (s : AtExit (endedAt 3 refused-kinds.ps refused-kinds.r) κs)
+pub refused_says : (κs : Lfts 4) (a : ArgsD refused-fn.signature κs) (r : ResD refused-fn.signature κs) (s : AtExit (endedAt 4 refused-kinds.ps refused-kinds.r) κs)
     → refused-contract.Post κs a r s
-    → refused_of a.0 a.1.0.now a.1.1.0.now (on a.1.1.1.0.now 0) ≡ on s.1.1.1.0.now r
+    → refused_of a.0 a.1.0.now a.1.1.0.now a.1.1.1.0.now ≡ s.1.1.1.0.now
 refused_says κs a r s x = x

@@ -2,160 +2,137 @@
 #![tactic(auto)]
 
 ghost use Rattle.std.specs.Prelude.{◌≡◌, ◌≤◌, length};
-ghost use Rattle.paper.specs.Block.{block_bytes};
-ghost use Rattle.words.specs.Line.{on, ◌puts◌};
 ghost use Rattle.faults.specs.Faults.{fault, another, labelled, unlike, elsewhere, shot_elsewhere, reasons, told, ended_of, refused_of};
 
 use block::BLOCK;
-use words::{put, put_figure, put_figures};
+use words::Line;
+
+// What ended a run or refused a record is a number here and not a Refusal, since what is said is promised of every number
+// (`ended_says`, `refused_says` in docs/PROMISES.md).
 
 // The meanings of 8, 9 and 10, said of block i.
-fn put_fault(number: u32, i: usize, line: &mut [u8], at: usize) -> usize
-    ensures { on line.old at puts fault number i ≡ on line.new result }
+#[tactic(auto, unfolding(crate::specs::Faults::fault))]
+fn fault(number: u32, i: usize) -> &'static [u8]
+    ensures { result.now ≡ fault number i }
 {
-    if number == 8 {
-        return put(b"damaged, a check is wrong (8)\n", line, at);
+    match number {
+        8 => b"damaged, a check is wrong (8)\n",
+        9 => b"no block of edition 1 or 2, a field is wrong (9)\n",
+        _ if i == 0 => b"not the start of the record asked for (10)\n",
+        _ => b"not the next block of this record (10)\n",
     }
-    if number == 9 {
-        return put(
-            b"no block of edition 1 or 2, a field is wrong (9)\n",
-            line,
-            at,
-        );
-    }
-    if i == 0 {
-        return put(b"not the start of the record asked for (10)\n", line, at);
-    }
-    put(b"not the next block of this record (10)\n", line, at)
 }
 
 // Another number than the one wanted.
-fn put_another(its: &[u8], found: u64, wanted: u64, line: &mut [u8], at: usize) -> usize
-    ensures { another its.now found wanted (on line.old at) ≡ on line.new result }
+#[tactic(auto, unfolding(crate::specs::Faults::another))]
+fn put_another(its: &[u8], found: u64, wanted: u64, line: &mut Line<'_>)
+    ensures { another its.now found wanted line.old ≡ line.new }
 {
-    if found == wanted {
-        return at;
+    if found != wanted {
+        line.put_figures(its, found, b" and not ", wanted);
+        line.put(b"\n");
     }
-    let told = put_figures(its, found, b" and not ", wanted, line, at);
-    put(b"\n", line, told)
 }
 
 // Another label than the one expected: the desk may have to look for that cartridge.
-fn put_labelled(found: &[u8], label: &[u8], line: &mut [u8], at: usize) -> usize
-    ensures { labelled found.now label.now (on line.old at) ≡ on line.new result }
+#[tactic(auto, unfolding(crate::specs::Faults::labelled))]
+fn put_labelled(found: &[u8], label: &[u8], line: &mut Line<'_>)
+    ensures { labelled found.now label.now line.old ≡ line.new }
 {
-    if fields::same_bytes(found, label) {
-        return at;
+    if !fields::same_bytes(found, label) {
+        line.put(b"    its label is ");
+        line.put(found);
+        line.put(b" and not ");
+        line.put(label);
+        line.put(b"\n");
     }
-    let says = put(b"    its label is ", line, at);
-    let told = put(found, line, says);
-    let not = put(b" and not ", line, told);
-    let wanted = put(label, line, not);
-    put(b"\n", line, wanted)
 }
 
 // Another side, levels or planes than block 0's.
-fn put_unlike(form: &[u8], first: &[u8], line: &mut [u8], at: usize) -> usize
-    ensures { unlike form.now first.now (on line.old at) ≡ on line.new result }
+#[tactic(auto, unfolding(crate::specs::Faults::unlike))]
+fn put_unlike(form: &[u8], first: &[u8], line: &mut Line<'_>)
+    ensures { unlike form.now first.now line.old ≡ line.new }
 {
-    if fields::same_bytes(form, first) {
-        return at;
+    if !fields::same_bytes(form, first) {
+        line.put(b"    its side, levels or planes are not block 0's\n");
     }
-    put(
-        b"    its side, levels or planes are not block 0's\n",
-        line,
-        at,
-    )
 }
 
 // Another arm or mount than block 0's: a shot of the same label, and not this one.
-fn put_elsewhere(first: &[u8], block: &[u8], line: &mut [u8], at: usize) -> usize
-    requires first_len { length first.now ≡ block_bytes }
-    requires block_len { length block.now ≡ block_bytes }
-    ensures { elsewhere first.now block.now (on line.old at) ≡ on line.new result }
+#[tactic(auto, unfolding(crate::specs::Faults::elsewhere))]
+fn put_elsewhere(first: &[u8; BLOCK], block: &[u8; BLOCK], line: &mut Line<'_>)
+    ensures { elsewhere first.now block.now line.old ≡ line.new }
 {
-    let arm = reader::arm_of(block) as u64;
-    let arm_wanted = reader::arm_of(first) as u64;
-    let armed = put_another(b"    its arm is ", arm, arm_wanted, line, at);
-    let mount = reader::mount_of(block) as u64;
-    let mount_wanted = reader::mount_of(first) as u64;
-    put_another(b"    its mount is ", mount, mount_wanted, line, armed)
+    let arm = u64::from(reader::arm_of(block));
+    let arm_wanted = u64::from(reader::arm_of(first));
+    put_another(b"    its arm is ", arm, arm_wanted, line);
+    let mount = u64::from(reader::mount_of(block));
+    let mount_wanted = u64::from(reader::mount_of(first));
+    put_another(b"    its mount is ", mount, mount_wanted, line);
 }
 
 // Not told where the editions differ: edition 1 has no arm that a person could look for.
-fn put_shot_elsewhere(first: &[u8], block: &[u8], line: &mut [u8], at: usize) -> usize
-    requires first_len { length first.now ≡ block_bytes }
-    requires block_len { length block.now ≡ block_bytes }
-    ensures { shot_elsewhere first.now block.now (on line.old at) ≡ on line.new result }
+#[tactic(auto, unfolding(crate::specs::Faults::shot_elsewhere))]
+fn put_shot_elsewhere(first: &[u8; BLOCK], block: &[u8; BLOCK], line: &mut Line<'_>)
+    ensures { shot_elsewhere first.now block.now line.old ≡ line.new }
 {
-    if block[0] != first[0] {
-        return at;
+    if block[0] == first[0] {
+        put_elsewhere(first, block, line);
     }
-    put_elsewhere(first, block, line, at)
 }
 
 // Each reason of 10 that applies.
+#[tactic(auto, unfolding(crate::specs::Faults::reasons))]
 fn put_reasons(
-    first: &[u8],
+    first: &[u8; BLOCK],
     label: &[u8],
     i: usize,
-    block: &[u8],
-    line: &mut [u8],
-    at: usize,
-) -> usize
-    requires first_len { length first.now ≡ block_bytes }
-    requires block_len { length block.now ≡ block_bytes }
-    ensures { reasons first.now label.now i block.now (on line.old at) ≡ on line.new result }
+    block: &[u8; BLOCK],
+    line: &mut Line<'_>,
+)
+    ensures { reasons first.now label.now i block.now line.old ≡ line.new }
 {
     let number = fields::pair_at(block, 12) as u64;
-    let turn = put_another(b"    its number is ", number, i as u64, line, at);
-    let name = put_labelled(&block[4..12], label, line, turn);
-    let edition = put_another(
-        b"    its edition is ",
-        block[0] as u64,
-        first[0] as u64,
-        line,
-        name,
-    );
-    let form = put_unlike(&block[1..4], &first[1..4], line, edition);
-    put_shot_elsewhere(first, block, line, form)
+    put_another(b"    its number is ", number, i as u64, line);
+    put_labelled(&block[4..12], label, line);
+    let edition = u64::from(block[0]);
+    put_another(b"    its edition is ", edition, u64::from(first[0]), line);
+    put_unlike(&block[1..4], &first[1..4], line);
+    put_shot_elsewhere(first, block, line);
 }
 
 // What is wrong with block i of the blocks.
-fn put_told(number: u32, blocks: &[u8], label: &[u8], i: usize, line: &mut [u8], at: usize) -> usize
-    ensures { told number blocks.now label.now i (on line.old at) ≡ on line.new result }
+#[tactic(auto, unfolding(crate::specs::Faults::told))]
+fn put_told(number: u32, blocks: &[u8], label: &[u8], i: usize, line: &mut Line<'_>)
+    ensures { told number blocks.now label.now i line.old ≡ line.new }
 {
-    let said = put_fault(number, i, line, at);
-    if number != 10 {
-        return said;
+    line.put(fault(number, i));
+    let (whole, _) = blocks.as_chunks::<BLOCK>();
+    if number == 10 && i < whole.len() {
+        put_reasons(&whole[0], label, i, &whole[i], line);
     }
-    if blocks.len() / BLOCK <= i {
-        return said;
-    }
-    let first = reader::block_at(blocks, 0);
-    let block = reader::block_at(blocks, i);
-    put_reasons(first, label, i, block, line, said)
 }
 
 // What ended the run, block i, if anything did.
-pub fn ended(number: u32, blocks: &[u8], label: &[u8], i: usize, line: &mut [u8]) -> usize
-    ensures line_value { ended_of number blocks.now label.now i (on line.old 0) ≡ on line.new result }
-    ensures upper_bound { result ≤ length line.new }
+#[tactic(auto, unfolding(crate::specs::Faults::ended_of))]
+pub fn ended(number: u32, blocks: &[u8], label: &[u8], i: usize, line: &mut Line<'_>)
+    ensures line_value { ended_of number blocks.now label.now i line.old ≡ line.new }
+    ensures upper_bound { line.old.at ≤ length line.old.bytes → line.new.at ≤ length line.new.bytes }
 {
-    if number == 0 {
-        return 0;
+    if number != 0 {
+        line.put_figure(b"  block ", i as u64);
+        line.put(b" ended the run: it is ");
+        put_told(number, blocks, label, i, line);
     }
-    let at = put_figure(b"  block ", i as u64, line, 0);
-    let said = put(b" ended the run: it is ", line, at);
-    put_told(number, blocks, label, i, line, said)
 }
 
 // The lines of a record whose block 0 is not kept.
-pub fn refused(number: u32, blocks: &[u8], label: &[u8], line: &mut [u8]) -> usize
-    ensures { refused_of number blocks.now label.now (on line.old 0) ≡ on line.new result }
+#[tactic(auto, unfolding(crate::specs::Faults::refused_of))]
+pub fn refused(number: u32, blocks: &[u8], label: &[u8], line: &mut Line<'_>)
+    ensures { refused_of number blocks.now label.now line.old ≡ line.new }
 {
-    let verdict = put(b"REFUSED ", line, 0);
-    let named = put(label, line, verdict);
-    let said = put(b": block 0 is ", line, named);
-    put_told(number, blocks, label, 0, line, said)
+    line.put(b"REFUSED ");
+    line.put(label);
+    line.put(b": block 0 is ");
+    put_told(number, blocks, label, 0, line);
 }

@@ -1,48 +1,41 @@
--- One more byte of a comparison, of a label and of the unused bits, and no byte left. Assumes nothing.
-use Prim.Native.Nat.{ℕ, suc, ◌+◌, ◌<◌, ◌≤◌}
-use mathlib.Core.Path.{◌≡◌, refl, ap}
-use mathlib.Core.Bool.{Bool, true, false, ◌&&◌, and-false}
+-- The comparison, the label and the unused bits as the library writes them. Assumes nothing.
+use Prim.Native.Nat.{ℕ, zero, suc, ◌+◌, ◌-◌, ◌<◌, ◌≤◌}
+use mathlib.Core.Path.{◌≡◌, refl, sym, ap, ◌∙◌}
+use mathlib.Core.Bool.{Bool, true, false, not, ◌&&◌}
 use mathlib.Core.List.{List, [], ◌∷◌}
 use native.Mathlib.Numerals.{add-one}
+use native.Mathlib.Omega.{arith}
 use lib.Dec.{eqb}
 use lib.ListN.{length, drop, get_or, drop_of_length-le}
-use lib.Seq.{drop-cons, drop-length}
+use lib.Seq.{drop-cons}
+use Rattle.std.specs.Cmp.Lexicographic.{pointwise}
+use Rattle.std.specs.List.{list_all, range_with_len}
 use Rattle.paper.specs.Bits.{all_zero}
 use Rattle.paper.specs.Block.{label_character, label_characters, same_bytes}
 
-pub same_more : (a b : List ℕ) (i : ℕ) → i < length a → i < length b
-    → same_bytes (drop i a) (drop i b) ≡ eqb (get_or a i 0) (get_or b i 0) && same_bytes (drop (i + 1) a) (drop (i + 1) b)
+pub same_is_pointwise : (s t : List ℕ) → same_bytes s t ≡ pointwise eqb s t
 unfolding same_bytes
-same_more a b i ha hb = rw (add-one, drop-cons a i 0, drop-cons b i 0)
+same_is_pointwise [] [] = refl
+same_is_pointwise [] (w ∷ t) = refl
+same_is_pointwise (v ∷ s) [] = refl
+same_is_pointwise (v ∷ s) (w ∷ t) = ap (λ r. eqb v w && r) (same_is_pointwise s t)
 
-pub same_end : (a b : List ℕ) (i : ℕ) → i ≡ length a → length a ≡ length b → same_bytes (drop i a) (drop i b) ≡ true
-unfolding same_bytes
-same_end a b i e h = rw (e, drop-length, h, drop-length)
-
-pub same_lengths : (a b : List ℕ) → (length a ≡ length b → ⊥) → same_bytes a b ≡ false
-unfolding same_bytes
-same_lengths [] [] h = absurd (h refl)
-same_lengths [] (w ∷ t) h = refl
-same_lengths (v ∷ s) [] h = refl
-same_lengths (v ∷ s) (w ∷ t) h = rw (same_lengths s t (λ e. h (ap suc e))) (and-false (eqb v w))
-
-pub characters_more : (s : List ℕ) (i : ℕ) → i < length s
-    → label_characters (drop i s) ≡ label_character (get_or s i 0) && label_characters (drop (i + 1) s)
+pub characters_all : (s : List ℕ) → label_characters s ≡ list_all label_character s
 unfolding label_characters
-characters_more s i h = rw (add-one, drop-cons s i 0)
+characters_all [] = refl
+characters_all (c ∷ s) = ap (λ r. label_character c && r) (characters_all s)
 
-pub characters_end : (s : List ℕ) (i : ℕ) → i ≡ length s → label_characters (drop i s) ≡ true
-unfolding label_characters
-characters_end s i e = rw (e, drop-length)
-
-pub unused_more : (l : List Bool) (i : ℕ) (b : Bool) → i < length l → b ≡ get_or l i false → b ≡ false → all_zero (drop i l) ≡ all_zero (drop (i + 1) l)
+-- the first bit and the others
+zero_cons : (b : Bool) (l : List Bool) → all_zero (b ∷ l) ≡ (not b && all_zero l)
 unfolding all_zero
-unused_more l i b h e z = rw (add-one, drop-cons l i false, ← e, z)
+zero_cons true l = refl
+zero_cons false l = refl
 
-pub unused_set : (l : List Bool) (i : ℕ) (b : Bool) → i < length l → b ≡ get_or l i false → b ≡ true → all_zero (drop i l) ≡ false
+-- each bit from the i-th on is 0
+pub unused_all : (n : ℕ) (l : List Bool) (i : ℕ) → length l - i ≡ n → list_all (λ at. not (get_or l at false)) (range_with_len i n) ≡ all_zero (drop i l)
 unfolding all_zero
-unused_set l i b h e z = rw (drop-cons l i false, ← e, z)
-
-pub unused_end : (l : List Bool) (i : ℕ) → length l ≤ i → all_zero (drop i l) ≡ true
-unfolding all_zero
-unused_end l i h = rw (drop_of_length-le l h)
+unused_all zero l i h = let past : length l ≤ i = omega arith in rw (drop_of_length-le l past)
+unused_all (suc n) l i h =
+    let inside : i < length l = omega arith in
+    ap (λ r. not (get_or l i false) && r) (unused_all n l (i + 1) (omega arith) ∙ ap (λ (k : ℕ). all_zero (drop k l)) (add-one i))
+    ∙ sym (ap all_zero (drop-cons l i false inside) ∙ zero_cons (get_or l i false) (drop (suc i) l))

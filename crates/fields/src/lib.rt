@@ -3,73 +3,37 @@
 
 ghost use Rattle.std.specs.Prelude.{◌≡◌, ◌+◌, ◌<◌, ◌≤◌, length, drop};
 ghost use Rattle.paper.specs.Bits.{bits, all_zero};
-ghost use Rattle.paper.specs.Block.{block_bytes, pair_at, same_bytes, label_character, label_characters, is_label};
+ghost use Rattle.paper.specs.Block.{block_bytes, pair_at, same_bytes, label_character, is_label};
 
 // Two bytes at place i, high byte first.
 pub fn pair_at(block: &[u8], i: usize) -> usize
     requires { i + 1 < length block.now }
     ensures { result ≡ pair_at block.now i }
 {
-    (256 * sums::wide(block[i]) + sums::wide(block[i + 1])) as usize
+    usize::from(u16::from_be_bytes([block[i], block[i + 1]]))
 }
 
 // The same bytes, one for one.
+#[tactic(auto, using(crate::proofs::Bytewise::same_is_pointwise))]
 pub fn same_bytes(a: &[u8], b: &[u8]) -> bool
     ensures { result ≡ same_bytes a.now b.now }
 {
-    if a.len() != b.len() {
-        return false;
-    }
-    let mut i = 0;
-    while i < a.len() {
-        if a[i] != b[i] {
-            return false;
-        }
-        i += 1;
-    }
-    true
+    a == b
 }
 
 // 0 to 9 or A to Z.
+#[tactic(auto, unfolding(paper::specs::Block::label_character))]
 fn label_character(c: u8) -> bool
     ensures { result ≡ label_character c }
 {
-    if c < b'0' {
-        return false;
-    }
-    if c <= b'9' {
-        return true;
-    }
-    if c < b'A' {
-        return false;
-    }
-    if c <= b'Z' {
-        return true;
-    }
-    false
-}
-
-fn label_characters(s: &[u8]) -> bool
-    ensures { result ≡ label_characters s.now }
-{
-    let mut i = 0;
-    while i < s.len() {
-        if !label_character(s[i]) {
-            return false;
-        }
-        i += 1;
-    }
-    true
+    c.is_ascii_digit() || c.is_ascii_uppercase()
 }
 
 // A label is eight characters.
 pub fn is_label(s: &[u8]) -> bool
     ensures { result ≡ is_label s.now }
 {
-    if s.len() != 8 {
-        return false;
-    }
-    label_characters(s)
+    s.len() == 8 && s.iter().all(|&c| label_character(c))
 }
 
 // No bit of the payload is set from the count-th on.
@@ -77,13 +41,5 @@ pub fn unused_zero(payload: &[u8], count: usize) -> bool
     requires { length payload.now ≤ block_bytes }
     ensures { result ≡ all_zero (drop count (bits payload.now)) }
 {
-    let end = 8 * payload.len();
-    let mut at = count;
-    while at < end {
-        if bits::bit_at(payload, at) {
-            return false;
-        }
-        at += 1;
-    }
-    true
+    (count..8 * payload.len()).all(|at| !bits::bit_at(payload, at))
 }

@@ -1,50 +1,34 @@
 -- One level, and the levels of its upper left quarter.
 use mathlib.Core.Path.{◌≡◌, refl, sym, ◌∙◌}
-use mathlib.Core.Bool.{Bool, true, false, not}
+use mathlib.Core.Bool.{true, false}
 use mathlib.Core.List.{List, ◌++◌}
 use Prim.Native.Nat.{ℕ, zero, suc, ◌+◌, ◌*◌, ◌-◌, ◌/◌, ◌^◌, ◌<◌, ◌≤◌}
 use native.Mathlib.Omega.{arith}
-use native.Mathlib.Nat.{pow-suc, pow-le-pow_right, mul_comm, mul_assoc}
-use lib.Dec.{lit<}
+use native.Mathlib.Nat.{pow-suc, mul_comm, mul_assoc}
 use lib.ListN.{length, take, drop}
 use lib.Seq.{length-take-le}
 use lib.IntN.{ℤ}
-use Rattle.paper.specs.Line.{line_forward, line_back}
 use Rattle.paper.specs.Square.{along, level_forward, level_back, on_first, levels_forward, levels_back}
 use Rattle.lift.proofs.Steps.{grow}
 use Rattle.line.specs.Each.{Each, line_limit}
 use Rattle.line.specs.Rule.{Rule}
-use Rattle.square_laws.specs.Undone.{length_level, length_level_back, length_levels_back}
+use Rattle.square_laws.specs.Undone.{length_levels_back}
 use Rattle.square_laws.specs.Sizes.{take_each, pass_each, level_each, le_mul_pow}
 use Rattle.square_laws.specs.Near.{grown}
 use Rattle.square_laws.specs.Range.{Sized, first_sized, sized_each, columns_range, grown_least}
 use Rattle.square_laws.proofs.Range.{levels_range}
-use Rattle.pass.specs.Way.{way}
-use Rattle.levels.specs.Level.{level_way, Fitting, forth}
-
-pub level_is : (back : Bool) (j : ℕ) (xs : List ℤ) → along (way back) j (not back) (along (way back) j back xs) ≡ level_way back j xs
-unfolding way level_way level_forward level_back
-level_is false j xs = refl
-level_is true j xs = refl
-
-pub length_way : (back : Bool) (j : ℕ) (xs : List ℤ) → length (level_way back j xs) ≡ 4 ^ j
-unfolding level_way
-length_way false j xs = length_level line_forward j xs
-length_way true j xs = length_level_back line_back j xs
+use Rattle.levels.specs.Level.{Fitting, forth}
 
 on_is : (n : ℕ) (f : List ℤ → List ℤ) (xs : List ℤ) → on_first n f xs ≡ f (take n xs) ++ drop n xs
 unfolding on_first
 on_is n f xs = refl
 
--- a quarter of the places, and a line of half the length
+-- a quarter of the places
 pub quarter : (k n : ℕ) → 0 < k → n ≡ 4 ^ k → n / 4 ≡ 4 ^ (k - 1)
 quarter zero n h e = omega arith
 quarter (suc k) n h e =
     let r : suc k - 1 ≡ k = omega arith in
     rw r (omega (arith, pow-suc 4 k))
-
-pub half_le : (k : ℕ) → 2 ^ (k - 1) ≤ 2 ^ k
-half_le k = pow-le-pow_right {n = 2} (lit< tt) (omega arith)
 
 -- the first n numbers, where n is known by another name
 pub part : (n m : ℕ) (xs : List ℤ) → n ≡ m → n ≤ length xs → length (take n xs) ≡ m

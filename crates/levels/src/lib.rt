@@ -1,107 +1,97 @@
 // L levels of a square in Z order, in lent memory. The upper left quarter is the first quarter of the places, so the next
-// level is the same work on a part of the slice.
+// level is the same work on a part of the slice. Forward and back stay two of each: every one is a definition of the paper
+// (`level_forward`, `levels_back` and their like), and they differ in the order of their steps.
 #![tactic(auto)]
 
-ghost use Rattle.std.specs.Prelude.{◌≡◌, ◌^◌, ◌<◌, ◌≤◌, length};
-ghost use Rattle.paper.specs.Sizes.{most_size};
+ghost use Rattle.std.specs.Prelude.{◌≡◌, ◌^◌, ◌<◌, ◌≤◌, true, false, length};
 ghost use Rattle.paper.specs.Line.{line_forward, line_back};
-ghost use Rattle.paper.specs.Square.{along, levels_forward, levels_back};
+ghost use Rattle.paper.specs.Square.{along, level_forward, level_back, levels_forward, levels_back};
 ghost use Rattle.line.specs.Each.{Each, line_limit};
 ghost use Rattle.square_laws.specs.Near.{grown};
-ghost use Rattle.pass.specs.Way.{way};
-ghost use Rattle.levels.specs.Level.{level_way, Fitting, forth};
+ghost use Rattle.levels.specs.Level.{Fitting, forth};
 
-// The numbers of the longest line.
-const LONGEST: usize = 1 << sizes::MOST_SIZE;
+use pass::Lines;
+use sizes::Size;
 
-// One level: rows before columns, or back, columns before rows. `a` and `b` are working room for one line.
-fn passes(j: u32, back: bool, xs: &mut [i32], a: &mut [i32], b: &mut [i32])
-    requires j_le_most_size { j ≤ most_size }
-    requires j_nonzero { 0 < j }
-    requires xs_len { length xs.old ≡ 4 ^ j }
+// Room for two lines of the largest side: one as it was, and the same turned.
+const ROOM: usize = 2 << sizes::MOST_SIZE;
+
+// One level forward: every row, then every column.
+#[tactic(auto, unfolding(paper::specs::Square::level_forward))]
+fn level_forward(size: Size, xs: &mut [i32], room: &mut [i32; ROOM])
+    requires size_nonzero { 0 < size }
+    requires xs_len { length xs.old ≡ 4 ^ size }
     requires each { Each line_limit xs.old }
-    requires each_2 { Each line_limit (along (way back) j back xs.old) }
-    requires a_len { length a.old ≡ 2 ^ j }
-    requires b_len { length b.old ≡ 2 ^ j }
-    ensures { xs.new ≡ level_way back j xs.old }
+    requires each_2 { Each line_limit (along line_forward size false xs.old) }
+    ensures { xs.new ≡ level_forward line_forward size xs.old }
 {
-    pass::turn_lines(j, back, back, xs, a, b);
-    pass::turn_lines(j, !back, back, xs, a, b);
+    let s = size.side();
+    let (line, turned) = room[..2 * s].split_at_mut(s);
+    pass::turn_lines(size, Lines::Rows, line::forward, xs, line, turned);
+    pass::turn_lines(size, Lines::Columns, line::forward, xs, line, turned);
 }
 
-// One level, with room for one line or more.
-fn level(j: u32, back: bool, xs: &mut [i32], a: &mut [i32], b: &mut [i32])
-    requires j_le_most_size { j ≤ most_size }
-    requires j_nonzero { 0 < j }
-    requires xs_len { length xs.old ≡ 4 ^ j }
+// One level back: every column, then every row.
+#[tactic(auto, unfolding(paper::specs::Square::level_back))]
+fn level_back(size: Size, xs: &mut [i32], room: &mut [i32; ROOM])
+    requires size_nonzero { 0 < size }
+    requires xs_len { length xs.old ≡ 4 ^ size }
     requires each { Each line_limit xs.old }
-    requires each_2 { Each line_limit (along (way back) j back xs.old) }
-    requires j_in_bounds { 2 ^ j ≤ length a.old }
-    requires j_in_bounds_2 { 2 ^ j ≤ length b.old }
-    ensures { xs.new ≡ level_way back j xs.old }
+    requires each_2 { Each line_limit (along line_back size true xs.old) }
+    ensures { xs.new ≡ level_back line_back size xs.old }
 {
-    let s = places::side(j);
-    passes(j, back, xs, &mut a[..s], &mut b[..s]);
+    let s = size.side();
+    let (line, turned) = room[..2 * s].split_at_mut(s);
+    pass::turn_lines(size, Lines::Columns, line::back, xs, line, turned);
+    pass::turn_lines(size, Lines::Rows, line::back, xs, line, turned);
 }
 
 // Forward: one level, then those of the upper left quarter.
-fn forward_in(k: u32, levels: u32, xs: &mut [i32], a: &mut [i32], b: &mut [i32])
-    requires k_le_most_size { k ≤ most_size }
-    requires levels_le_k { levels ≤ k }
-    requires xs_len { length xs.old ≡ 4 ^ k }
+fn forward_in(size: Size, levels: u32, xs: &mut [i32], room: &mut [i32; ROOM])
+    requires levels_le_size { levels ≤ size }
+    requires xs_len { length xs.old ≡ 4 ^ size }
     requires fitting { Fitting forth levels xs.old }
-    requires k_in_bounds { 2 ^ k ≤ length a.old }
-    requires k_in_bounds_2 { 2 ^ k ≤ length b.old }
-    ensures { xs.new ≡ levels_forward line_forward levels k xs.old }
+    ensures { xs.new ≡ levels_forward line_forward levels size xs.old }
 {
     if levels == 0 {
         return;
     }
     let q = xs.len() / 4;
-    level(k, false, xs, a, b);
-    forward_in(k - 1, levels - 1, &mut xs[..q], a, b);
+    level_forward(size, xs, room);
+    forward_in(size.half(), levels - 1, &mut xs[..q], room);
 }
 
 // Back: the levels of the upper left quarter, then the one that was first.
-fn back_in(k: u32, levels: u32, xs: &mut [i32], a: &mut [i32], b: &mut [i32])
-    requires k_le_most_size { k ≤ most_size }
-    requires levels_le_k { levels ≤ k }
-    requires xs_len { length xs.old ≡ 4 ^ k }
+fn back_in(size: Size, levels: u32, xs: &mut [i32], room: &mut [i32; ROOM])
+    requires levels_le_size { levels ≤ size }
+    requires xs_len { length xs.old ≡ 4 ^ size }
     requires fitting { Fitting grown levels xs.old }
-    requires k_in_bounds { 2 ^ k ≤ length a.old }
-    requires k_in_bounds_2 { 2 ^ k ≤ length b.old }
-    ensures { xs.new ≡ levels_back line_back levels k xs.old }
+    ensures { xs.new ≡ levels_back line_back levels size xs.old }
 {
     if levels == 0 {
         return;
     }
     let q = xs.len() / 4;
-    back_in(k - 1, levels - 1, &mut xs[..q], a, b);
-    level(k, true, xs, a, b);
+    back_in(size.half(), levels - 1, &mut xs[..q], room);
+    level_back(size, xs, room);
 }
 
-// The levels forward, with room for a line of the largest side.
-pub fn forward(k: u32, levels: u32, xs: &mut [i32])
-    requires k_le_most_size { k ≤ most_size }
-    requires levels_le_k { levels ≤ k }
-    requires xs_len { length xs.old ≡ 4 ^ k }
+// The levels forward.
+pub fn forward(size: Size, levels: u32, xs: &mut [i32])
+    requires levels_le_size { levels ≤ size }
+    requires xs_len { length xs.old ≡ 4 ^ size }
     requires fitting { Fitting forth levels xs.old }
-    ensures { xs.new ≡ levels_forward line_forward levels k xs.old }
+    ensures { xs.new ≡ levels_forward line_forward levels size xs.old }
 {
-    let mut a = [0i32; LONGEST];
-    let mut b = [0i32; LONGEST];
-    forward_in(k, levels, xs, &mut a, &mut b);
+    forward_in(size, levels, xs, &mut [0; ROOM]);
 }
 
 // The levels back.
-pub fn back(k: u32, levels: u32, xs: &mut [i32])
-    requires k_le_most_size { k ≤ most_size }
-    requires levels_le_k { levels ≤ k }
-    requires xs_len { length xs.old ≡ 4 ^ k }
+pub fn back(size: Size, levels: u32, xs: &mut [i32])
+    requires levels_le_size { levels ≤ size }
+    requires xs_len { length xs.old ≡ 4 ^ size }
     requires fitting { Fitting grown levels xs.old }
-    ensures { xs.new ≡ levels_back line_back levels k xs.old }
+    ensures { xs.new ≡ levels_back line_back levels size xs.old }
 {
-    let mut a = [0i32; LONGEST];
-    let mut b = [0i32; LONGEST];
-    back_in(k, levels, xs, &mut a, &mut b);
+    back_in(size, levels, xs, &mut [0; ROOM]);
 }

@@ -1,4 +1,5 @@
 // The steps of the 5/3 rule: one high or low number from its neighbours, and its sample back.
+// Each of the four is a definition of the paper, with a sign and a shift of its own.
 // A shift to the right rounds towards minus infinity, as the rule asks; a division would round towards zero.
 #![tactic(auto)]
 

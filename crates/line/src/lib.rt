@@ -5,19 +5,12 @@ ghost use Rattle.std.specs.Prelude.{◌≡◌, ◌+◌, ◌*◌, ◌/◌, ◌-�
 ghost use Rattle.paper.specs.Line.{high_at, line_forward, even_at, line_back};
 ghost use Rattle.line.specs.Each.{Each, line_limit};
 
-// The pair before pair i: before the first stands the first.
-fn pair_before(i: usize) -> usize
-    ensures { result ≡ i - 1 }
-{
-    if i > 0 { i - 1 } else { 0 }
-}
-
 // The pair after pair i of h: after the last stands the last.
 fn pair_after(i: usize, h: usize) -> usize
     requires { i < h }
     ensures { result ≡ min (i + 1) (h - 1) }
 {
-    if i + 1 < h { i + 1 } else { h - 1 }
+    (i + 1).min(h - 1)
 }
 
 // high[i]
@@ -27,19 +20,17 @@ fn high_at(x: &[i32], h: usize, i: usize) -> i32
     requires i_lt_h { i < h }
     ensures { result ≡ high_at x.now i }
 {
-    let a = pair_after(i, h);
-    lift::high_of(x[2 * i + 1], x[2 * i], x[2 * a])
+    lift::high_of(x[2 * i + 1], x[2 * i], x[2 * pair_after(i, h)])
 }
 
-// x[2i], back from the lows and highs.
+// x[2i], back from the lows and highs. Before the first pair stands the first.
 fn even_at(y: &[i32], h: usize, i: usize) -> i32
     requires each { Each line_limit y.now }
     requires y_len { length y.now ≡ 2 * h }
     requires i_lt_h { i < h }
     ensures { result ≡ even_at y.now h i }
 {
-    let b = pair_before(i);
-    lift::even_of(y[i], y[h + b], y[h + i])
+    lift::even_of(y[i], y[h + i.saturating_sub(1)], y[h + i])
 }
 
 // The line x into out, lows before highs.
@@ -52,13 +43,11 @@ pub fn forward(x: &[i32], out: &mut [i32])
 {
     let h = x.len() / 2;
     let mut last = high_at(x, h, 0);
-    let mut i: usize = 0;
-    while i < h {
+    for i in 0..h {
         let high = high_at(x, h, i);
         out[i] = lift::low_of(x[2 * i], last, high);
         out[h + i] = high;
         last = high;
-        i += 1;
     }
 }
 
@@ -72,12 +61,10 @@ pub fn back(y: &[i32], out: &mut [i32])
 {
     let h = y.len() / 2;
     let mut left = even_at(y, h, 0);
-    let mut i: usize = 0;
-    while i < h {
+    for i in 0..h {
         let right = even_at(y, h, pair_after(i, h));
         out[2 * i] = left;
         out[2 * i + 1] = lift::odd_of(y[h + i], left, right);
         left = right;
-        i += 1;
     }
 }

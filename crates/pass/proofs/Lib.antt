@@ -1,3 +1,3 @@
 -- The laws of a pass.
-pub mod Lines
+pub mod OneLine
 pub mod Passes

@@ -12,7 +12,7 @@ use lib.IntN.{ℤ, pos}
 use Rattle.paper.specs.Lists.{at}
 use Rattle.paper.specs.Square.{place_of, line_of, line, along}
 use Rattle.square_laws.specs.Grid.{line_of_place, length_line, at_line, length_along, at_along, same_square}
-use Rattle.pass.specs.Way.{Put}
+use Rattle.pass.specs.Turns.{Put}
 
 -- the first n lines are changed by f, and the others are as they were
 pub record Passed (f : List ℤ → List ℤ) (j : ℕ) (down : Bool) (n : ℕ) (old new : List ℤ) : Type 0 where

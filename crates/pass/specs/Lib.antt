@@ -1,2 +1,2 @@
 -- What the contracts of a pass cite.
-pub mod Way
+pub mod Turns

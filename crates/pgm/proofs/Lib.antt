@@ -1,3 +1,2 @@
 -- Laws of the header's definitions.
 pub mod Steps
-pub mod Fields

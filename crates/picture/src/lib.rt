@@ -1,45 +1,30 @@
 // A picture's way in and out: greys less 128 at their Z places, and greys set into 0 to 255 at their raster places.
+// The ways in and out have one shape and nothing else in common: kinds of place, items and the step are each's own.
 #![tactic(auto)]
 
-ghost use Rattle.std.specs.Prelude.{◌≡◌, ◌^◌, ◌≤◌, pos, ◌+ℤ◌, ◌-ℤ◌, length};
-ghost use Rattle.paper.specs.Sizes.{most_size};
+ghost use Rattle.std.specs.Prelude.{◌≡◌, ◌^◌, pos, ◌+ℤ◌, ◌-ℤ◌, length};
 ghost use Rattle.paper.specs.Lists.{made, at};
 ghost use Rattle.paper.specs.Square.{lowered, grey, pictured};
 ghost use Rattle.line.specs.Each.{Each, line_limit};
+
+use sizes::Size;
 
 // A grey less 128.
 fn lower_grey(g: u8) -> i32
     ensures { result ≡ pos g -ℤ pos 128 }
 {
-    g as i32 - 128
+    i32::from(g) - 128
 }
 
 // Each grey of the picture less 128, at its Z place.
-pub fn lower(k: u32, picture: &[u8], xs: &mut [i32])
-    requires k_le_most_size { k ≤ most_size }
-    requires picture_len { length picture.now ≡ 4 ^ k }
-    requires xs_len { length xs.old ≡ 4 ^ k }
-    ensures { xs.new ≡ lowered k picture.now }
+pub fn lower(size: Size, picture: &[u8], xs: &mut [i32])
+    requires picture_len { length picture.now ≡ 4 ^ size }
+    requires xs_len { length xs.old ≡ 4 ^ size }
+    ensures { xs.new ≡ lowered size picture.now }
 {
-    let mut i = 0;
-    while i < xs.len() {
-        let z = places::z_place(i);
-        let g = places::grey_at(picture, places::from_z(k, z));
-        places::set_number(xs, z, lower_grey(g));
-        i += 1;
-    }
-}
-
-// The numbers into `out`.
-pub fn copy(xs: &[i32], out: &mut [i32])
-    requires { length out.old ≡ length xs.now }
-    ensures { out.new ≡ xs.now }
-{
-    let mut i = 0;
-    while i < out.len() {
-        let z = places::z_place(i);
-        places::set_number(out, z, places::number_at(xs, z));
-        i += 1;
+    for (i, x) in xs.iter_mut().enumerate() {
+        let place = places::from_z(size, places::place(i));
+        *x = lower_grey(places::at(picture, place));
     }
 }
 
@@ -48,12 +33,8 @@ pub fn raise(xs: &mut [i32])
     requires { Each line_limit xs.old }
     ensures { xs.new ≡ made (length xs.old) (λ z. at xs.old z +ℤ pos 128) }
 {
-    let mut i = 0;
-    while i < xs.len() {
-        let z = places::z_place(i);
-        let x = places::number_at(xs, z);
-        places::set_number(xs, z, x + 128);
-        i += 1;
+    for x in xs.iter_mut() {
+        *x += 128;
     }
 }
 
@@ -61,27 +42,17 @@ pub fn raise(xs: &mut [i32])
 fn grey(x: i32) -> u8
     ensures { result ≡ grey x }
 {
-    if x < 0 {
-        return 0;
-    }
-    if x > 255 {
-        return 255;
-    }
-    x as u8
+    x.clamp(0, 255) as u8
 }
 
 // The greys at their raster places, set into 0 to 255.
-pub fn set_picture(k: u32, greys: &[i32], picture: &mut [u8])
-    requires k_le_most_size { k ≤ most_size }
-    requires greys_len { length greys.now ≡ 4 ^ k }
-    requires picture_len { length picture.old ≡ 4 ^ k }
-    ensures { picture.new ≡ pictured k greys.now }
+pub fn set_picture(size: Size, greys: &[i32], picture: &mut [u8])
+    requires greys_len { length greys.now ≡ 4 ^ size }
+    requires picture_len { length picture.old ≡ 4 ^ size }
+    ensures { picture.new ≡ pictured size greys.now }
 {
-    let mut i = 0;
-    while i < picture.len() {
-        let p = places::raster_place(i);
-        let x = places::number_at(greys, places::to_z(k, p));
-        places::set_grey(picture, p, grey(x));
-        i += 1;
+    for (i, g) in picture.iter_mut().enumerate() {
+        let place = places::to_z(size, places::place(i));
+        *g = grey(places::at(greys, place));
     }
 }

@@ -3,63 +3,42 @@ use mathlib.Core.Path.{◌≡◌, refl, sym, ap, ◌∙◌}
 use mathlib.Core.Bool.{Bool, true, false, ◌&&◌}
 use mathlib.Core.List.{List}
 use Prim.Native.Nat.{ℕ, zero, suc, ◌+◌, ◌*◌, ◌-◌, ◌/◌, ◌<◌, ◌≤◌}
-use native.Mathlib.Nat.{add-sub_cancel_left, mul-zero}
+use native.Mathlib.Nat.{mul-suc, mul-zero}
 use native.Mathlib.Numerals.{add-one}
 use native.Mathlib.Omega.{arith}
-use lib.Dec.{eqb}
-use lib.ListN.{length, take, drop}
-use lib.Seq.{length-take-le}
-use borrow.Author.Tests.{ne_eqb}
-use Rattle.paper.specs.Sizes.{unless}
-use Rattle.paper.specs.Block.{block_bytes, header_bytes, start_of, payload_bits, same_bytes, edition_of, count_of, named_of, block_refusal}
-use Rattle.paper.specs.Record.{block_at, said, in_turn, turn_refusal, refusal_at, is_full, Run, run_from, start_in, run_of, bits_kept}
+use lib.ListN.{length, take, drop, get_or}
+use lib.Seq.{drop-drop, length-take-le}
+use Rattle.std.specs.Simd.{first_chunks}
+use Rattle.paper.specs.Block.{block_bytes, header_bytes, start_of, payload_bits, same_bytes, edition_of, count_of, named_of}
+use Rattle.paper.specs.Record.{block_at, said, turn_refusal, refusal_at, is_full, Run, run_from, start_in, run_of, bits_kept}
 use Rattle.block.proofs.Blocks.{same_bytes_parts}
 use Rattle.record_laws.specs.Turn.{edition_of_0}
 
--- ---- three tests, one after the other
-pub first_fails : {a : Bool} (b c : Bool) → a ≡ false → false ≡ (a && b && c)
-first_fails b c e = ap (λ a. a && b && c) (sym e)
+-- ---- block i, among the whole blocks that are lent
+chunk_at : (s : List ℕ) (whole i : ℕ) (d : List ℕ) → i < whole → get_or (first_chunks block_bytes whole s) i d ≡ block_at s i
+chunk_at s zero i d h = absurd (omega arith)
+chunk_at s (suc whole) zero d h = refl
+chunk_at s (suc whole) (suc i) d h =
+    chunk_at (drop block_bytes s) whole i d (omega arith)
+    ∙ ap (take block_bytes) (drop-drop (block_bytes * i) block_bytes s)
+    ∙ ap (λ n. take block_bytes (drop n s)) (omega (arith, mul-suc block_bytes i))
 
-pub second_fails : {a b : Bool} (c : Bool) → a ≡ true → b ≡ false → false ≡ (a && b && c)
-second_fails c e f = λ t. sym e t && sym f t && c
-
-pub third_decides : {a b : Bool} (c : Bool) → a ≡ true → b ≡ true → c ≡ (a && b && c)
-third_decides c e f = λ t. sym e t && sym f t && c
-
--- ---- block i, lent as a part
-pub part_is : (s : List ℕ) (i : ℕ) → take (block_bytes * i + block_bytes - block_bytes * i) (drop (block_bytes * i) s) ≡ block_at s i
-part_is s i = ap (λ n. take n (drop (block_bytes * i) s)) (add-sub_cancel_left (block_bytes * i) block_bytes)
+pub block_there : (s : List ℕ) (i : ℕ) (blocks : List (List ℕ)) (d : List ℕ) → blocks ≡ first_chunks block_bytes (length s / block_bytes) s → block_bytes * i + block_bytes ≤ length s
+    → get_or blocks i d ≡ block_at s i
+block_there s i blocks d e h = ap (λ blocks. get_or blocks i d) e ∙ chunk_at s (length s / block_bytes) i d (omega arith)
 
 -- ---- what the blocks of a record agree in
 pub named_part : (block : List ℕ) (end : ℕ) → end ≡ start_of (edition_of block) → take (end - header_bytes) (drop header_bytes block) ≡ named_of block
 unfolding named_of
 named_part block end e = ap (λ n. take (n - header_bytes) (drop header_bytes block)) e
 
--- the front decides first, and then what names arm and mount
+-- the front, and what names arm and mount
 module _ (s t : List ℕ) (long : header_bytes + 4 ≤ length s) (long' : header_bytes + 4 ≤ length t) where
-  parted : same_bytes (said s) (said t) ≡ (same_bytes (take 12 s) (take 12 t) && same_bytes (named_of s) (named_of t))
+  pub parted : same_bytes (said s) (said t) ≡ (same_bytes (take 12 s) (take 12 t) && same_bytes (named_of s) (named_of t))
   unfolding said
   parted = same_bytes_parts (take 12 s) (take 12 t) (named_of s) (named_of t) (length-take-le 12 s (omega arith) ∙ sym (length-take-le 12 t (omega arith)))
 
-  pub front_unlike : same_bytes (take 12 s) (take 12 t) ≡ false → same_bytes (said s) (said t) ≡ false
-  front_unlike h = parted ∙ ap (λ b. b && same_bytes (named_of s) (named_of t)) h
-
-  pub front_alike : same_bytes (take 12 s) (take 12 t) ≡ true → same_bytes (said s) (said t) ≡ same_bytes (named_of s) (named_of t)
-  front_alike h = parted ∙ ap (λ b. b && same_bytes (named_of s) (named_of t)) h
-
--- ---- a block in its turn
-module _ (first label : List ℕ) (i : ℕ) (block : List ℕ) where
-  pub turn_fails : (r : ℕ) → r ≡ block_refusal block → 0 < r → r ≡ turn_refusal first label i block
-  unfolding turn_refusal
-  turn_fails r e h =
-      let failed : eqb r 0 ≡ false = ne_eqb r 0 (λ z. omega arith) in
-      sym (ap (λ f. unless r f (unless 10 (in_turn first label i block) 0)) failed) ∙ ap (λ r. unless r (eqb r 0) (unless 10 (in_turn first label i block) 0)) e
-
-  pub turn_judged : (r : ℕ) (fits : Bool) → r ≡ block_refusal block → r ≡ 0 → fits ≡ in_turn first label i block → unless 10 fits 0 ≡ turn_refusal first label i block
-  unfolding turn_refusal
-  turn_judged r fits e z f = ap (λ g. unless 10 g 0) f ∙ ap (λ r. unless r (eqb r 0) (unless 10 (in_turn first label i block) 0)) (sym z ∙ e)
-
--- block i of s, by what block 0 of s said
+-- ---- block i of s judged where it lies, by what block 0 of s said
 pub judged_at : (s label : List ℕ) (i : ℕ) {r : ℕ} {first block : List ℕ} → first ≡ block_at s 0 → block ≡ block_at s i
     → r ≡ turn_refusal (said first) label i block → r ≡ refusal_at s label i
 judged_at s label i f b e = e ∙ (λ t. turn_refusal (said (f t)) label i (b t))
@@ -89,18 +68,18 @@ module _ (start : ℕ) (refusal : ℕ → ℕ) (s : List ℕ) (whole i : ℕ) (h
       failed (suc r) g = refl
 
   -- a block that passes
-  passed : {r : ℕ} {full : Bool} → r ≡ refusal i → r ≡ 0 → is_full start (block_at s i) ≡ full → run_from start refusal s (whole - i) i ≡ after start refusal s (whole - (i + 1)) i 0 full
-  passed e z f = step ∙ (λ t. after start refusal s (whole - (i + 1)) i ((sym e ∙ z) t) (f t))
+  passed : {full : Bool} → 0 ≡ refusal i → is_full start (block_at s i) ≡ full → run_from start refusal s (whole - i) i ≡ after start refusal s (whole - (i + 1)) i 0 full
+  passed e f = step ∙ (λ t. after start refusal s (whole - (i + 1)) i (sym e t) (f t))
 
-  pub run_short : (r : ℕ) → r ≡ refusal i → r ≡ 0 → is_full start (block_at s i) ≡ false → run_from start refusal s (whole - i) i ≡ record { kept = i + 1; ended = 0 }
-  run_short r e z short = passed e z short ∙ ap (λ j. record { kept = j; ended = 0 }) (sym (add-one i))
+  pub run_short : 0 ≡ refusal i → is_full start (block_at s i) ≡ false → run_from start refusal s (whole - i) i ≡ record { kept = i + 1; ended = 0 }
+  run_short e short = passed e short ∙ ap (λ j. record { kept = j; ended = 0 }) (sym (add-one i))
 
-  pub run_more : (r : ℕ) → r ≡ refusal i → r ≡ 0 → is_full start (block_at s i) ≡ true → run_from start refusal s (whole - i) i ≡ run_from start refusal s (whole - (i + 1)) (i + 1)
-  run_more r e z full = passed e z full ∙ ap (run_from start refusal s (whole - (i + 1))) (sym (add-one i))
+  pub run_more : 0 ≡ refusal i → is_full start (block_at s i) ≡ true → run_from start refusal s (whole - i) i ≡ run_from start refusal s (whole - (i + 1)) (i + 1)
+  run_more e full = passed e full ∙ ap (run_from start refusal s (whole - (i + 1))) (sym (add-one i))
 
-pub run_ends : (start : ℕ) (refusal : ℕ → ℕ) (s : List ℕ) (whole i : ℕ) → i ≡ whole → run_from start refusal s (whole - i) i ≡ record { kept = i; ended = 0 }
+pub run_ends : (start : ℕ) (refusal : ℕ → ℕ) (s : List ℕ) (whole i : ℕ) → i ≡ whole → run_from start refusal s (whole - i) i ≡ record { kept = whole; ended = 0 }
 unfolding run_from
-run_ends start refusal s whole i e = let z : whole - i ≡ zero = omega arith in ap (λ left. run_from start refusal s left i) z
+run_ends start refusal s whole i e = let z : whole - i ≡ zero = omega arith in ap (λ left. run_from start refusal s left i) z ∙ ap (λ j. record { kept = j; ended = 0 }) e
 
 pub run_start : (s label : List ℕ) → run_of s label ≡ run_from (start_in s) (refusal_at s label) s (length s / block_bytes - 0) 0
 run_start s label = let e : length s / block_bytes ≡ length s / block_bytes - 0 = omega arith in ap (λ left. run_from (start_in s) (refusal_at s label) s left 0) e

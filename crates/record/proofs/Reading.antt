@@ -1,6 +1,6 @@
 -- The reading job, refused and done.
 use mathlib.Core.Path.{◌≡◌, sym, ap, ◌∙◌}
-use mathlib.Core.Bool.{◌&&◌}
+use mathlib.Core.Bool.{Bool, ◌&&◌}
 use mathlib.Core.List.{List}
 use Prim.Native.Nat.{ℕ, ◌*◌, ◌/◌, ◌<◌, ◌≤◌}
 use native.Mathlib.Omega.{arith}
@@ -28,6 +28,10 @@ pub record Usable (s : List ℕ) (kept : ℕ) : Type 0 where
   pub most : bits_kept (start_in s) s kept ≤ payload_bits (start_in s) * kept
 
 module _ (s label room : List ℕ) where
+  pub lent_judged : {r : ℕ} {fitting : Bool} → fitting ≡ (leb block_bytes (length s) && leb (room_bytes * (length s / block_bytes)) (length room)) → r ≡ unless 6 fitting (unless 7 (is_label label) 0)
+      → r ≡ lent_rows (length s) label (length room)
+  lent_judged f e = e ∙ ap (λ f. unless 6 f (unless 7 (is_label label) 0)) f
+
   pub lent_refused : {r : ℕ} → r ≡ lent_rows (length s) label (length room) → 0 < r → reading_refusal s label room ≡ r
   unfolding reading_refusal lent_refusal
   lent_refused {r} e h = rows_stand 5 6 (leb block_bytes (length s) && leb (room_bytes * whole_blocks s) (length room)) (is_label label) (refusal_at s label 0) (omega arith) ∙ sym e
@@ -46,27 +50,27 @@ module _ (s label room : List ℕ) where
   unfolding reading_job
   read_refused_lem r e h = ap (λ q. judged q (read_refused room) (read_run (edition_of s) s room (run_of s label))) e ∙ refused_is r _ _ h
 
-  module _ (kept ended : ℕ) (run : run_of s label ≡ record { kept = kept; ended = ended }) where
-    kept_is : (run_of s label).kept ≡ kept
-    kept_is = ap (λ r. r.kept) run
+-- the longest run, by its parts
+module _ (s label : List ℕ) (kept ended : ℕ) (run : run_of s label ≡ record { kept = kept; ended = ended }) where
+  kept_is : (run_of s label).kept ≡ kept
+  kept_is = ap (λ r. r.kept) run
 
-    pub kept_usable : Bytes s → Usable s kept
-    kept_usable w = record { few = rw (← kept_is) (kept_numbered s label w); whole = rw (← kept_is) (kept_within s label); most = rw (← kept_is) (bits_kept_most s label) }
+  pub kept_usable : Bytes s → Usable s kept
+  kept_usable w = record { few = rw (← kept_is) (kept_numbered s label w); whole = rw (← kept_is) (kept_within s label); most = rw (← kept_is) (bits_kept_most s label) }
 
-    module _ (passed : lent_rows (length s) label (length room) ≡ 0) where
-      -- nothing is kept: the run ended with block 0's number
-      pub none_kept_refused : kept ≡ 0 → (reading_refusal s label room ≡ ended) × (0 < ended)
-      none_kept_refused z =
-          let (first, fails) = block_0_refused s label (omega (arith, (lent_holds passed).0)) (kept_is ∙ z) in
-          let e : (run_of s label).ended ≡ ended = ap (λ r. r.ended) run in
-          let f : ended ≡ 0 → ⊥ = λ g. fails (e ∙ g) in
-          (lent_passed passed ∙ first ∙ e, omega arith)
+  -- nothing is kept: the run ended with block 0's number
+  pub none_kept : block_bytes ≤ length s → kept ≡ 0 → (ended ≡ refusal_at s label 0) × (0 < ended)
+  none_kept one z =
+      let (first, fails) = block_0_refused s label (omega arith) (kept_is ∙ z) in
+      let e : (run_of s label).ended ≡ ended = ap (λ r. r.ended) run in
+      let f : ended ≡ 0 → ⊥ = λ g. fails (e ∙ g) in
+      (sym (first ∙ e), omega arith)
 
-      pub read_done : (bits : ℕ) (exit : List ℕ) → 0 < kept → bits ≡ bits_kept (start_in s) s kept → exit ≡ over (payload_kept (start_in s) s kept) room
-          → reading_job s label room ≡ record { refusal = 0; k = byte_at s 1; L = byte_at s 2; n = byte_at s 3; blocks = kept; bits = bits; ended = ended; edition = edition_of s; arm = arm_of s; mount = mount_of s; room = exit }
-      unfolding reading_job
-      read_done bits exit h b e =
-          let some : 0 < (run_of s label).kept = omega (arith, kept_is) in
-          done_is _ _ _ (lent_passed passed ∙ block_0_passes s label some)
-          ∙ ap (read_run (edition_of s) s room) run
-          ∙ (λ t. record { refusal = 0; k = byte_at s 1; L = byte_at s 2; n = byte_at s 3; blocks = kept; bits = sym b t; ended = ended; edition = edition_of s; arm = arm_of s; mount = mount_of s; room = sym e t })
+  pub read_done : (room : List ℕ) → lent_rows (length s) label (length room) ≡ 0 → (bits : ℕ) (exit : List ℕ) → 0 < kept → bits ≡ bits_kept (start_in s) s kept → exit ≡ over (payload_kept (start_in s) s kept) room
+      → reading_job s label room ≡ record { refusal = 0; k = byte_at s 1; L = byte_at s 2; n = byte_at s 3; blocks = kept; bits = bits; ended = ended; edition = edition_of s; arm = arm_of s; mount = mount_of s; room = exit }
+  unfolding reading_job
+  read_done room passed bits exit h b e =
+      let some : 0 < (run_of s label).kept = omega (arith, kept_is) in
+      done_is _ _ _ (lent_passed s label room passed ∙ block_0_passes s label some)
+      ∙ ap (read_run (edition_of s) s room) run
+      ∙ (λ t. record { refusal = 0; k = byte_at s 1; L = byte_at s 2; n = byte_at s 3; blocks = kept; bits = sym b t; ended = ended; edition = edition_of s; arm = arm_of s; mount = mount_of s; room = sym e t })

@@ -1,6 +1,6 @@
 -- The writing job, refused and done.
 use mathlib.Core.Path.{◌≡◌, sym, ap, ◌∙◌}
-use mathlib.Core.Bool.{◌&&◌}
+use mathlib.Core.Bool.{true, ◌&&◌}
 use mathlib.Core.List.{List, ◌++◌}
 use Prim.Native.Nat.{ℕ, ◌*◌, ◌<◌, ◌≤◌}
 use native.Mathlib.Omega.{arith}
@@ -12,6 +12,8 @@ use Rattle.paper.specs.Bits.{bits}
 use Rattle.paper.specs.Block.{is_label, Origin, edition_in, origin_in, block_bytes, start_of, payload_bits, numbered_blocks, named}
 use Rattle.paper.specs.Record.{blocks_for, block_of, record_of}
 use Rattle.paper.specs.Jobs.{sizes_refusal, writing_refusal, writing_job}
+use borrow.Author.Tests.{leb-true}
+use Rattle.sizes.proofs.Ranges.{both_first, both_second}
 use Rattle.sizes.proofs.Refusals.{refused_is}
 use Rattle.block.proofs.Editions.{start_most}
 use Rattle.record_laws.specs.Counts.{blocks_few}
@@ -47,6 +49,11 @@ module _ (k L n : ℕ) (o : Origin) (label bytes : List ℕ) (b : ℕ) (room : L
         ∙ ap (λ j. joined j block ++ drop (block_bytes * j) room) (ap (blocks_for o.edition) given ∙ sym e)
         ∙ sym (f ∙ ap (λ block. joined blocks block ++ drop (block_bytes * blocks) room) (same_blocks p o edition says k L n label l)) in
         room_written k L n o label bytes b room passed ∙ (λ t. record { refusal = 0; blocks = sym e t; room = laid t })
+
+-- an edition that there is and that is not the first is the second
+pub edition_second : (e : ℕ) → edition_in e ≡ true → (e ≡ 1 → ⊥) → 2 ≡ e
+unfolding edition_in
+edition_second e h later = omega (arith, leb-true 1 e (both_first (leb 1 e) (leb e 2) h), leb-true e 2 (both_second (leb 1 e) (leb e 2) h))
 
 -- the blocks of an accepted call can be counted
 pub bits_numbered : {k L n b : ℕ} {o : Origin} {label bytes room : List ℕ} → Accepted k L n o label bytes b room → b ≤ payload_bits (start_of o.edition) * numbered_blocks

@@ -1,5 +1,5 @@
 pub mod Run
 pub mod Test
 pub mod Numbers
-pub mod Four
+pub mod InOrder
 pub mod Set

@@ -6,11 +6,12 @@ use Prim.Native.Nat.{ℕ, suc, ◌^◌}
 use lib.IntN.{ℤ}
 use Rattle.paper.specs.Lists.{pick}
 use Rattle.paper.specs.Walk.{Coder, reaches, test_set}
-use Rattle.bits.specs.Bits.{Sink, put1, wrote}
+use Rattle.bits.specs.Bits.{put1, wrote}
+use Rattle.bits.specs.declared.BitSink.{BitSink}
 use Rattle.scan.specs.declared.Seen.{Seen}
 use Rattle.scan.specs.declared.Seen.TheVariants.{Known, New, Closed}
 use Rattle.scan.specs.Seen.{seen_of}
-use Rattle.set_coder.specs.Coded.{Coded}
+use Rattle.set_coder.specs.Coded.{stands, Coded}
 
 -- open or not, and the bits
 abbrev says : Seen → Bool × List Bool
@@ -27,20 +28,20 @@ test_is p xs = go (reaches (2 ^ suc p) xs) (reaches (2 ^ p) xs)
     go false true = refl
     go false false = refl
 
-module _ (p limit : ℕ) (xs : List ℤ) (s : Seen) (is-s : s ≡ seen_of p xs) (s₀ : Sink) where
-  test_coded : (o : Bool) (l : List Bool) {s₁ : Sink} → says s ≡ (o, l) → s₁ ≡ wrote limit l s₀ → Coded (test_set Coder p xs) limit s₀ o s₁
-  test_coded o l e w =
+module _ (p : ℕ) (xs : List ℤ) (s : Seen) (is-s : s ≡ seen_of p xs) (s₀ : BitSink) where
+  test_coded : (o : Bool) (l : List Bool) {s₁ : BitSink} → says s ≡ (o, l) → stands s₁ ≡ wrote s₀.limit l (stands s₀) → s₁.limit ≡ s₀.limit → s₁.bytes.ghost_name ≡ s₀.bytes.ghost_name → Coded (test_set Coder p xs) s₀ o s₁
+  test_coded o l e w n b =
       let c : test_set Coder p xs ≡ (o, l) = test_is p xs ∙ ap says (sym is-s) ∙ e in
-      record { held = ap (λ c. c.0) c; put = w ∙ ap (λ c. wrote limit c.1 s₀) (sym c) }
+      record { held = ap (λ c. c.0) c; put = w ∙ ap (λ c. wrote s₀.limit c.1 (stands s₀)) (sym c); limit = n; same = b }
 
-  pub test_known : s ≡ Known → Coded (test_set Coder p xs) limit s₀ true s₀
+  pub test_known : s ≡ Known → Coded (test_set Coder p xs) s₀ true s₀
   unfolding wrote
-  test_known k = test_coded true [] (ap says k) refl
+  test_known k = test_coded true [] (ap says k) refl refl refl
 
-  pub test_new : (s₁ : Sink) → s ≡ New → s₁ ≡ put1 limit true s₀ → Coded (test_set Coder p xs) limit s₀ true s₁
+  pub test_new : (s₁ : BitSink) → s ≡ New → stands s₁ ≡ put1 s₀.limit true (stands s₀) → s₁.limit ≡ s₀.limit → s₁.bytes.ghost_name ≡ s₀.bytes.ghost_name → Coded (test_set Coder p xs) s₀ true s₁
   unfolding wrote
   test_new s₁ k = test_coded true (true ∷ []) (ap says k)
 
-  pub test_closed : (s₁ : Sink) → s ≡ Closed → s₁ ≡ put1 limit false s₀ → Coded (test_set Coder p xs) limit s₀ false s₁
+  pub test_closed : (s₁ : BitSink) → s ≡ Closed → stands s₁ ≡ put1 s₀.limit false (stands s₀) → s₁.limit ≡ s₀.limit → s₁.bytes.ghost_name ≡ s₀.bytes.ghost_name → Coded (test_set Coder p xs) s₀ false s₁
   unfolding wrote
   test_closed s₁ k = test_coded false (false ∷ []) (ap says k)

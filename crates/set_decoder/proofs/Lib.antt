@@ -1,6 +1,7 @@
+pub mod Tapes
 pub mod Run
 pub mod Sign
 pub mod Test
 pub mod Numbers
-pub mod Four
+pub mod InOrder
 pub mod Set

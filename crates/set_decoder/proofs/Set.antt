@@ -3,7 +3,6 @@ use mathlib.Core.Path.{◌≡◌, sym, subst}
 use mathlib.Core.Bool.{Bool, true}
 use mathlib.Core.List.{List}
 use Prim.Native.Nat.{ℕ, ◌+◌, ◌*◌, ◌-◌, ◌/◌, ◌≤◌}
-use native.Mathlib.Omega.{arith}
 use lib.IntN.{ℤ}
 use lib.ListN.{length, drop}
 use Rattle.paper.specs.Walk.{Decoder, test_set, walk_set}
@@ -13,8 +12,8 @@ use Rattle.walk_laws.specs.Room.{Room, room_take, room_drop}
 use Rattle.shapes.specs.Shapes.{IsSet}
 use Rattle.shapes.proofs.Cuts.{Cut, part_set, Quarters, last_quarter}
 use Rattle.shapes.proofs.Walks.{Three, part_ran, set_quarters}
-use Rattle.set_decoder.specs.declared.Here.{Here}
-use Rattle.set_decoder.specs.Walked.{Source, Walked}
+use Rattle.set_decoder.specs.declared.tape.BitTape.{BitTape}
+use Rattle.set_decoder.specs.Walked.{Walked}
 use Rattle.set_decoder.proofs.Run.{decoder, reached}
 
 -- parts of numbers that leave room
@@ -40,32 +39,32 @@ module _ (k q : ℕ) (xs : List ℤ) (fits : q * 3 ≤ length xs) (w : Room k xs
       room4 z3 k3 = rw (part4_is q xs fits z1 k1 z2 k2 z3 k3) (room_drop k q (drop q (drop q xs)) w3)
 
 -- a set read, whatever its depth
-abbrev pub SetRead : ℕ → List ℕ → ℕ → List ℤ → Here → List ℤ → Here → Type 0
-SetRead p bytes b xs s zs t = (S : IsSet xs) → Walked (walk_set Decoder p S.d xs) bytes b s zs t
+abbrev pub SetRead : ℕ → List ℤ → BitTape → List ℤ → BitTape → Type 0
+SetRead p xs s zs t = (S : IsSet xs) → Walked (walk_set Decoder p S.d xs) s zs t
 
--- where the set behind one of q places is read
-pub next_set : (p : ℕ) {bytes : List ℕ} {b : ℕ} {xs part zs : List ℤ} {q n : ℕ} {s t : Here} → Cut xs q → length part ≡ q → Source bytes b s (q + n) → SetRead p bytes b part s zs t → Source bytes b t n
-next_set p {part = part} C m S X = let K = part_set C m in reached S (moves_set p K.d part K.is) (X K) (omega (arith, m))
+-- where the tape is behind one of the sets
+pub set_reached : (p : ℕ) {xs part zs : List ℤ} {q : ℕ} {s t : BitTape} → Cut xs q → length part ≡ q → SetRead p part s zs t → t.place ≤ s.place + q
+set_reached p {part = part} C m X = let K = part_set C m in rw m at (reached (moves_set p K.d part K.is) (X K))
 
-module _ (p : ℕ) (bytes : List ℕ) (b : ℕ) (xs : List ℤ) {s t₁ t₂ t₃ : Here} where
+module _ (p : ℕ) (xs : List ℤ) {s t₁ t₂ t₃ : BitTape} where
   pub three_read : {q : ℕ} (C : Cut xs q) (z1 : List ℤ) (k1 : length z1 ≡ length (part1 q xs)) (z2 : List ℤ) (k2 : length z2 ≡ length (part2 q xs z1)) {z3 : List ℤ}
-      → SetRead p bytes b (part1 q xs) s z1 t₁ → SetRead p bytes b (part2 q xs z1) t₁ z2 t₂ → SetRead p bytes b (part3 q xs z1 z2) t₂ z3 t₃
-      → Three (decoder bytes b) p C.d q xs s z1 t₁ z2 t₂ z3 t₃
+      → SetRead p (part1 q xs) s z1 t₁ → SetRead p (part2 q xs z1) t₁ z2 t₂ → SetRead p (part3 q xs z1 z2) t₂ z3 t₃
+      → Three decoder p C.d q xs s z1 t₁ z2 t₂ z3 t₃
   three_read {q} C z1 k1 z2 k2 X₁ X₂ X₃ =
       let n = C.three in
       record {
-        one = part_ran (decoder bytes b) p C (first_is q xs) (cut1_long q xs n) X₁;
-        two = part_ran (decoder bytes b) p C (part2_is q xs n z1 k1) (part2_long q xs n z1 k1) X₂;
-        three = part_ran (decoder bytes b) p C (part3_is q xs n z1 k1 z2 k2) (part3_long q xs n z1 k1 z2 k2) X₃;
+        one = part_ran decoder p C (first_is q xs) (cut1_long q xs n) X₁;
+        two = part_ran decoder p C (part2_is q xs n z1 k1) (part2_long q xs n z1 k1) X₂;
+        three = part_ran decoder p C (part3_is q xs n z1 k1 z2 k2) (part3_long q xs n z1 k1 z2 k2) X₃;
       }
 
-  pub quarters_read : {at t₄ : Here} {o : Bool} → Walked (test_set Decoder p xs) bytes b at o s → (Q : Quarters xs) → o ≡ true
+  pub quarters_read : {at t₄ : BitTape} {o : Bool} → Walked (test_set Decoder p xs) at o s → (Q : Quarters xs) → o ≡ true
       → (z1 : List ℤ) (k1 : length z1 ≡ length (part1 (length xs / 4) xs)) (z2 : List ℤ) (k2 : length z2 ≡ length (part2 (length xs / 4) xs z1)) (z3 : List ℤ) (k3 : length z3 ≡ length (part3 (length xs / 4) xs z1 z2)) (z4 : List ℤ)
-      → SetRead p bytes b (part1 (length xs / 4) xs) s z1 t₁ → SetRead p bytes b (part2 (length xs / 4) xs z1) t₁ z2 t₂ → SetRead p bytes b (part3 (length xs / 4) xs z1 z2) t₂ z3 t₃
-      → SetRead p bytes b (part4 (length xs / 4) xs z1 z2 z3) t₃ z4 t₄ → SetRead p bytes b xs at (after4 (length xs / 4) xs z1 z2 z3 z4) t₄
+      → SetRead p (part1 (length xs / 4) xs) s z1 t₁ → SetRead p (part2 (length xs / 4) xs z1) t₁ z2 t₂ → SetRead p (part3 (length xs / 4) xs z1 z2) t₂ z3 t₃
+      → SetRead p (part4 (length xs / 4) xs z1 z2 z3) t₃ z4 t₄ → SetRead p xs at (after4 (length xs / 4) xs z1 z2 z3 z4) t₄
   quarters_read {at} {t₄} T Q e z1 k1 z2 k2 z3 k3 z4 X₁ X₂ X₃ X₄ S =
       let q = length xs / 4 in
       let n = Q.cut.three in
-      subst (λ l. Walked (walk_set Decoder p S.d xs) bytes b at l t₄) (sym (after4_is q xs n z1 k1 z2 k2 z3 k3 z4))
-      (set_quarters (decoder bytes b) p xs T Q e (three_read Q.cut z1 k1 z2 k2 X₁ X₂ X₃)
-      (part_ran (decoder bytes b) p Q.cut (part4_is q xs n z1 k1 z2 k2 z3 k3) (last_quarter Q _ (part4_long q xs n z1 k1 z2 k2 z3 k3)) X₄) S)
+      subst (λ l. Walked (walk_set Decoder p S.d xs) at l t₄) (sym (after4_is q xs n z1 k1 z2 k2 z3 k3 z4))
+      (set_quarters decoder p xs T Q e (three_read Q.cut z1 k1 z2 k2 X₁ X₂ X₃)
+      (part_ran decoder p Q.cut (part4_is q xs n z1 k1 z2 k2 z3 k3) (last_quarter Q _ (part4_long q xs n z1 k1 z2 k2 z3 k3)) X₄) S)

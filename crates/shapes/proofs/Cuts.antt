@@ -6,7 +6,7 @@ use Prim.Native.Nat.{ℕ, zero, suc, ◌+◌, ◌*◌, ◌-◌, ◌/◌, ◌%◌
 use native.Mathlib.Nat.{pow-suc, mul-div_cancel, pow-le-pow_right, add-zero}
 use native.Mathlib.Omega.{arith}
 use lib.IntN.{ℤ}
-use lib.ListN.{length}
+use lib.ListN.{length, take, length-take}
 use Rattle.paper.specs.Sizes.{most_size}
 use Rattle.paper.specs.Walk.{depth}
 use Rattle.sizes.proofs.Counts.{area_shifted}
@@ -32,6 +32,9 @@ pub record Cut (xs : List ℤ) (q : ℕ) : Type 0 where
 module _ {xs : List ℤ} {q : ℕ} (C : Cut xs q) where
   abbrev pub part_set : {part : List ℤ} → length part ≡ q → IsSet part
   part_set s = record { d = C.d; is = s ∙ C.is }
+
+  pub first_part : length (take q xs) ≡ q
+  first_part = omega (arith, length-take q xs, C.three)
 
   pub behind_shorter : (n : ℕ) {t : ℕ} → n + (q + q + q) ≡ length xs → length xs ≡ t → n < t
   behind_shorter n s e = omega (arith, C.some)
@@ -118,6 +121,9 @@ none_depth K n =
 module _ {xs : List ℤ} {q : ℕ} (K : IsSquare xs q) where
   pub first_fits : q ≤ length xs
   first_fits = omega (arith, K.is, K.sized, pow-le-pow_right {n = 4} (omega arith) {i = suc K.d} {j = suc K.d + K.L} (omega arith))
+
+  pub first_long : length (take q xs) ≡ q
+  first_long = omega (arith, length-take q xs, first_fits)
 
   abbrev pub square_set : {part : List ℤ} → length part ≡ q → IsSet part
   square_set s = record { d = K.d; is = s ∙ K.is }

@@ -5,11 +5,10 @@ use mathlib.Core.Bool.{Bool, true, false}
 use mathlib.Core.List.{List, [], ◌∷◌, ◌++◌}
 use Prim.Native.Nat.{ℕ, zero, suc, ◌/◌, ◌^◌, ◌≤◌}
 use native.Mathlib.Omega.{arith}
-use lib.IntN.{ℤ, pos}
+use lib.IntN.{ℤ}
 use lib.ListN.{length, take, drop}
-use Rattle.paper.specs.Lists.{at}
 use Rattle.paper.specs.Walk.{Reading, test_set, walk_number, walk_numbers, ◌next◌, walk_set, walk_rest, walk_plane, walk_planes}
-use Rattle.list_laws.specs.Parts.{second, third, fourth, four_places}
+use Rattle.list_laws.specs.Parts.{second, third, fourth}
 use Rattle.walk_laws.specs.Asks.{opened}
 use Rattle.shapes.specs.Shapes.{IsSet, IsRest, IsSquare}
 use Rattle.shapes.proofs.Cuts.{Cut, part_set, Quarters, Onward, four_depth, quarters_depth, onward_depth, none_depth}
@@ -75,12 +74,10 @@ module _ {R : Reading} {St : Type 0} (W : Running R St) where
   unfolding ◌next◌
   both {a = a} {b} X Y = W.on _ X (W.on _ Y (W.still Y (a ++ b)))
 
-  -- numbers in order
-  pub four_ran : (p : ℕ) (xs : List ℤ) {s t₀ t₁ t₂ t₃ : St} {y₀ y₁ y₂ y₃ : ℤ} → length xs ≡ 4 → Ran (walk_number R p (at xs 0)) s (y₀ ∷ []) t₀ → Ran (walk_number R p (at xs 1)) t₀ (y₁ ∷ []) t₁
-      → Ran (walk_number R p (at xs 2)) t₁ (y₂ ∷ []) t₂ → Ran (walk_number R p (at xs 3)) t₂ (y₃ ∷ []) t₃ → Ran (walk_numbers R p xs) s (y₀ ∷ y₁ ∷ y₂ ∷ y₃ ∷ []) t₃
+  -- one number, and then those behind it
+  pub number_then : (p : ℕ) (x : ℤ) (xs : List ℤ) {s t u : St} {y : ℤ} {ys : List ℤ} → Ran (walk_number R p x) s (y ∷ []) t → Ran (walk_numbers R p xs) t ys u → Ran (walk_numbers R p (x ∷ xs)) s (y ∷ ys) u
   unfolding walk_numbers
-  four_ran p xs {s} {t₃ = t₃} {y₀} {y₁} {y₂} {y₃} n X₀ X₁ X₂ X₃ =
-      subst (λ l. Ran (walk_numbers R p l) s (y₀ ∷ y₁ ∷ y₂ ∷ y₃ ∷ []) t₃) (four_places (pos 0) xs n) (both X₀ (both X₁ (both X₂ (both X₃ (W.still X₃ [])))))
+  number_then p x xs X Y = both X Y
 
   -- a part that is a set, as the walk has it
   pub part_ran : (p : ℕ) {xs : List ℤ} {q : ℕ} (C : Cut xs q) {part x z : List ℤ} {s t : St} → part ≡ x → length part ≡ q → ((S : IsSet part) → Ran (walk_set R p S.d part) s z t) → Ran (walk_set R p C.d x) s z t

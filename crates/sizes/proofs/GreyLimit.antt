@@ -1,6 +1,6 @@
 -- Where the limit on greys passes 255, and that below that nothing overflows.
 use mathlib.Core.Path.{◌≡◌}
-use Prim.Native.Nat.{ℕ, ◌+◌, ◌*◌, ◌-◌, ◌%◌, ◌^◌, ◌<◌, ◌≤◌}
+use Prim.Native.Nat.{ℕ, ◌+◌, ◌*◌, ◌-◌, ◌%◌, ◌^◌, ◌<◌, ◌≤◌, min}
 use native.Mathlib.Omega.{arith}
 use native.Mathlib.Nat.{pow-le-pow_right, mod-eq_of_lt, mul-le-mul, one-mul}
 use Rattle.paper.specs.Sizes.{grey_limit}
@@ -53,10 +53,6 @@ grey_few L p h l =
 abbrev machine : ℕ → ℕ → ℕ
 machine L p = (7 * L + 1) * (1 * 2 ^ p % 4294967296 - 1)
 
-pub grey_under : (L p : ℕ) → Few L p → machine L p < 255 → machine L p ≡ grey_limit L p
+pub grey_capped : (L p : ℕ) → Few L p → (limit : ℕ) → limit ≡ min (machine L p) 255 → limit ≡ grey_limit L p
 unfolding grey_limit
-grey_under L p f = rw f.power (λ h. omega arith)
-
-pub grey_over : (L p : ℕ) → Few L p → 255 ≤ machine L p → 255 ≡ grey_limit L p
-unfolding grey_limit
-grey_over L p f = rw f.power (λ h. omega arith)
+grey_capped L p f limit = rw f.power (λ e. omega (arith, e))

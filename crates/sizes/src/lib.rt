@@ -1,11 +1,15 @@
 // The paper's sizes and limits: which sides, levels, planes and numbers are in range, and what follows from them.
 #![tactic(auto)]
 
-ghost use Rattle.std.specs.Prelude.{◌≡◌, true, ◌+◌, ◌*◌, ◌-◌, ◌/◌, ◌^◌, ◌<◌, ◌≤◌, max, leb, nat_abs};
+ghost use Rattle.std.specs.Prelude.{◌≡◌, true, ℕ, ◌+◌, ◌*◌, ◌-◌, ◌/◌, ◌^◌, ◌<◌, ◌≤◌, max, leb, nat_abs};
 ghost use Rattle.integer_laws.specs.Order.{Within};
 ghost use Rattle.paper.specs.Sizes.{most_size, size_in, levels_in, planes_in, numbers_in, number_limit, most_planes, most_bits, grey_limit};
 ghost use Rattle.paper.specs.Walk.{negative, signed, largest, bits_needed, plane_count};
 ghost use Rattle.paper.specs.Jobs.{sizes_refusal};
+ghost use Rattle.refusals.specs.Numbers.{refusal_of};
+
+use refusals::Refusal;
+use std::marker::Model;
 
 // The least and the largest k of a side 2^k.
 pub const LEAST_SIZE: u32 = 3;
@@ -15,32 +19,78 @@ pub const MOST_SIZE: u32 = 8;
 pub const MOST_LEVELS: u32 = 5;
 // The most planes.
 pub const MOST_PLANES: u32 = 18;
-// The largest magnitude of a wavelet number, and the least number that has it.
-pub const NUMBER_LIMIT: i32 = 262143;
+// The largest magnitude of a wavelet number.
+pub const NUMBER_LIMIT: u32 = 262143;
 
-const LEAST_NUMBER: i32 = -NUMBER_LIMIT;
+// k of a square of side 2^k, up to the largest; a thumbnail's too.
+#[derive(Clone, Copy, Debug, PartialEq, Eq)]
+pub struct Size {
+    k: u32,
+}
+
+impl Model for Size {
+    ghost Value = { ℕ };
+
+    ghost view = { λ s. s.k };
+
+    ghost invariant = { λ s. s.k ≤ most_size };
+
+    ghost inverse = { λ k. record { k = k } };
+}
+
+impl Size {
+    // Of k, which is at most the largest.
+    pub fn new(k: u32) -> Size
+        requires { k ≤ most_size }
+        ensures { result ≡ k }
+    {
+        Size { k }
+    }
+
+    // k itself.
+    pub fn k(self) -> u32
+        ensures value { result ≡ self }
+        ensures most { result ≤ most_size }
+    {
+        self.k
+    }
+
+    // S, the places of a line.
+    pub fn side(self) -> usize
+        ensures value { result ≡ 2 ^ self }
+        ensures most { self ≤ most_size }
+    {
+        1 << self.k
+    }
+
+    // S², the places of a picture; of a thumbnail too.
+    pub fn area(self) -> usize
+        ensures { result ≡ 4 ^ self }
+    {
+        1 << (2 * self.k)
+    }
+
+    // A quarter's: of half the side.
+    pub fn half(self) -> Size
+        requires { 0 < self }
+        ensures { result ≡ self - 1 }
+    {
+        Size { k: self.k - 1 }
+    }
+}
 
 // k in its range.
 pub fn size_in(k: u32) -> bool
     ensures { result ≡ size_in k }
 {
-    if k < LEAST_SIZE {
-        return false;
-    }
-    k <= MOST_SIZE
+    (LEAST_SIZE..=MOST_SIZE).contains(&k)
 }
 
 // L from 1 to the smaller of the most levels and k - 1.
 pub fn levels_in(k: u32, levels: u32) -> bool
     ensures { result ≡ levels_in k levels }
 {
-    if levels < 1 {
-        return false;
-    }
-    if levels > MOST_LEVELS {
-        return false;
-    }
-    levels < k
+    (1..=MOST_LEVELS).contains(&levels) && levels < k
 }
 
 // n at most the most planes.
@@ -50,22 +100,17 @@ pub fn planes_in(n: u32) -> bool
     n <= MOST_PLANES
 }
 
-// Refusals 1 and 2, or 0.
-pub fn sizes_refusal(k: u32, levels: u32) -> u32
-    ensures { result ≡ sizes_refusal k levels 0 }
+// Refuses sizes that are out of range, the side first.
+pub fn judge(k: u32, levels: u32) -> Result<(), Refusal>
+    ensures { refusal_of result ≡ sizes_refusal k levels 0 }
 {
     if !size_in(k) {
-        return 1;
+        return Err(Refusal::Side);
     }
-    if levels_in(k, levels) { 0 } else { 2 }
-}
-
-// S², the places of a picture; of a thumbnail too.
-pub fn area(k: u32) -> usize
-    requires { k ≤ most_size }
-    ensures { result ≡ 4 ^ k }
-{
-    1usize << (2 * k)
+    if !levels_in(k, levels) {
+        return Err(Refusal::Levels);
+    }
+    Ok(())
 }
 
 // The most bits that a coding of n planes has.
@@ -74,56 +119,22 @@ pub fn most_bits(k: u32, n: u32) -> usize
     requires n_value { planes_in n ≡ true }
     ensures { result ≡ most_bits k n }
 {
-    let places = area(k);
+    let places = Size::new(k).area();
     n as usize * (4 * places - 1) / 3 + places
 }
 
-// A number within the limit. Compared with both limits, since the least 32-bit number has no magnitude of 32 bits.
+// A number within the limit.
 pub fn number_in(x: i32) -> bool
     ensures { result ≡ leb (nat_abs x) number_limit }
 {
-    if x < LEAST_NUMBER {
-        return false;
-    }
-    x <= NUMBER_LIMIT
+    x.unsigned_abs() <= NUMBER_LIMIT
 }
 
 // No number beyond the limit.
 pub fn numbers_in(xs: &[i32]) -> bool
     ensures { result ≡ numbers_in xs.now }
 {
-    let mut i = 0;
-    while i < xs.len() {
-        if !number_in(xs[i]) {
-            return false;
-        }
-        i += 1;
-    }
-    true
-}
-
-fn larger(a: u32, b: u32) -> u32
-    ensures { result ≡ max a b }
-{
-    if a < b { b } else { a }
-}
-
-// a - b, and 0 where b is larger, as the definitions have it.
-pub fn less(a: u32, b: u32) -> u32
-    ensures { result ≡ a - b }
-{
-    if a < b {
-        return 0;
-    }
-    a - b
-}
-
-// The magnitude of a wavelet number.
-pub fn magnitude(x: i32) -> u32
-    requires { Within number_limit x }
-    ensures { result ≡ nat_abs x }
-{
-    if x < 0 { (0 - x) as u32 } else { x as u32 }
+    xs.iter().all(|&x| number_in(x))
 }
 
 // A number with so much more in magnitude, its sign kept.
@@ -137,14 +148,11 @@ pub fn grown(x: i32, more: u32) -> i32
 
 // The largest magnitude.
 fn largest(xs: &[i32]) -> u32
-    requires { numbers_in xs.now ≡ true }
     ensures { result ≡ largest xs.now }
 {
     let mut most: u32 = 0;
-    let mut i = 0;
-    while i < xs.len() {
-        most = larger(most, magnitude(xs[i]));
-        i += 1;
+    for &x in xs {
+        most = most.max(x.unsigned_abs());
     }
     most
 }
@@ -154,13 +162,7 @@ fn bits_needed(m: u32) -> u32
     requires { m ≤ number_limit }
     ensures { result ≡ bits_needed most_planes m }
 {
-    let mut left = m;
-    let mut n: u32 = 0;
-    while left > 0 {
-        left = left / 2;
-        n += 1;
-    }
-    n
+    u32::BITS - m.leading_zeros()
 }
 
 // n: the bits needed for the largest magnitude.
@@ -185,5 +187,5 @@ pub fn grey_limit(levels: u32, unfinished: u32) -> u32
         return 255;
     }
     let limit = (7 * levels + 1) * ((1u32 << unfinished) - 1);
-    if limit < 255 { limit } else { 255 }
+    limit.min(255)
 }

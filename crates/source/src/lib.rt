@@ -12,40 +12,38 @@ pub struct BitSource<'a> {
     pub place: usize,
 }
 
-// The source of the first `count` bits, at their first.
-pub fn new<'a>(bytes: &'a [u8], count: usize) -> BitSource<'a>
-    ensures { result ≡ record { bytes = bytes.entry; count = count; place = 0 } }
-{
-    BitSource {
-        bytes,
-        count,
-        place: 0,
+impl<'a> BitSource<'a> {
+    // The source of the first `count` bits, at their first.
+    pub fn new(bytes: &'a [u8], count: usize) -> BitSource<'a>
+        ensures { result ≡ record { bytes = bytes.entry; count = count; place = 0 } }
+    {
+        BitSource {
+            bytes,
+            count,
+            place: 0,
+        }
+    }
+
+    // The same source at another place.
+    pub fn moved(self, place: usize) -> BitSource<'a>
+        ensures { result ≡ record { bytes = self.entry.bytes; count = self.entry.count; place = place } }
+    {
+        BitSource { place, ..self }
+    }
+
+    // The next bit, and the place behind it: one past the count where the bit is missed.
+    pub fn take(self) -> bits::Answer
+        requires { (self.count ≤ 8 * length self.bytes.now) × (self.count + 1 < 2 ^ 64) }
+        ensures { result ≡ next_at self.entry.bytes.now self.entry.count self.entry.place }
+    {
+        bits::read_bit(self.bytes, self.count, self.place)
     }
 }
 
-// The same source at another place.
-pub fn moved<'a>(source: BitSource<'a>, place: usize) -> BitSource<'a>
-    ensures { result ≡ record { bytes = source.entry.bytes; count = source.entry.count; place = place } }
-{
-    BitSource {
-        bytes: source.bytes,
-        count: source.count,
-        place,
-    }
-}
-
-// The next bit, and the place behind it: one past the count where the bit is missed.
-pub fn take<'a>(source: BitSource<'a>) -> bits::Answer
-    requires { (source.count ≤ 8 * length source.bytes.now) × (source.count + 1 < 2 ^ 64) }
-    ensures { result ≡ next_at source.entry.bytes.now source.entry.count source.entry.place }
-{
-    bits::read_bit(source.bytes, source.count, source.place)
-}
-
-// The bit at a place, by the struct's way: with plain parameters, so whoever calls it needs no walk by hand.
+// The bit at a place, by the struct's way, for whoever has slice and numbers.
 pub fn bit_from(bytes: &[u8], count: usize, place: usize) -> bits::Answer
     requires { (count ≤ 8 * length bytes.now) × (count + 1 < 2 ^ 64) }
     ensures { result ≡ next_at bytes.now count place }
 {
-    take(moved(new(bytes, count), place))
+    BitSource::new(bytes, count).moved(place).take()
 }

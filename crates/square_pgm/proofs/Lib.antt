@@ -1,3 +1,2 @@
--- Laws of the header written.
-pub mod Laws
+-- What is written is read back.
 pub mod ReadBack

@@ -9,6 +9,7 @@ use lib.Dec.{leb, eqb}
 use lib.ListN.{length, drop, get_or, length-append}
 use lib.Seq.{drop-append-add, get_or-append-add}
 use borrow.Author.Tests.{ne_eqb, not-true}
+use Rattle.std.specs.Prelude.{Option, Some}
 use Rattle.paper.specs.Lists.{pick}
 use Rattle.sizes.proofs.Ranges.{both_first, both_second}
 use Rattle.pgm.specs.declared.Header.{Header}
@@ -50,18 +51,18 @@ module _ (pre t : List ℕ) (long : 2 < length pre) where
 
   -- a number stands behind it
   field_there : (n w value : ℕ) → Blank n → Digits (suc n) w value
-      → field_at (pre ++ t) (length pre + n) ≡ record { value = value; next = length pre + (suc n + suc w) }
+      → field_at (pre ++ t) (length pre + n) ≡ Some (record { value = value; next = length pre + (suc n + suc w) })
   unfolding field_at
   field_there n w value p q =
       let at : suc (length pre + n) ≡ length pre + suc n = omega arith in
       let from : eqb (length pre + suc n) (length pre + n) ≡ false = ne_eqb (length pre + suc n) (length pre + n) (λ e. omega (arith, e)) in
       let next : eqb (length pre + suc n + suc w) (length pre + suc n) ≡ false = ne_eqb (length pre + suc n + suc w) (length pre + suc n) (λ e. omega (arith, e)) in
       let end : length pre + suc n + suc w ≡ length pre + (suc n + suc w) = omega arith in
-      rw (ne_eqb (length pre + n) 0 (λ e. omega (arith, e)), drop-append-add pre t n, p (length pre + n), at, from, drop-append-add pre t (suc n), q (length pre + suc n), after_is w (length pre + suc n), next, end)
+      rw (drop-append-add pre t n, p (length pre + n), at, from, drop-append-add pre t (suc n), q (length pre + suc n), after_is w (length pre + suc n), next, end)
 
   -- the first number stands right behind the comment
   field_first : (w value : ℕ) → past_space false 2 (drop 2 (pre ++ t)) ≡ length pre + 0 → Digits 0 w value
-      → field_at (pre ++ t) 2 ≡ record { value = value; next = length pre + suc w }
+      → field_at (pre ++ t) 2 ≡ Some (record { value = value; next = length pre + suc w })
   unfolding field_at
   field_first w value p q =
       let from : eqb (length pre + 0) 2 ≡ false = ne_eqb (length pre + 0) 2 (λ e. omega (arith, e)) in
@@ -70,30 +71,30 @@ module _ (pre t : List ℕ) (long : 2 < length pre) where
       rw (p, from, drop-append-add pre t 0, q (length pre + 0), after_is w (length pre + 0), next, end)
 
   -- the raster stands behind the line end that follows them
-  raster_there : (n : ℕ) → get_or t n 0 ≡ 10 → raster_at (pre ++ t) (length pre + n) ≡ length pre + suc n
+  raster_there : (n : ℕ) → get_or t n 0 ≡ 10 → raster_at (pre ++ t) (length pre + n) ≡ Some (length pre + suc n)
   unfolding raster_at is_space
   raster_there n e =
       let behind : suc (length pre + n) ≡ length pre + suc n = omega arith in
-      rw (ne_eqb (length pre + n) 0 (λ e. omega (arith, e)), get_or-append-add pre t n 0, e) behind
+      rw (get_or-append-add pre t n 0, e) (ap Some behind)
 
   -- two numbers of w + 1 digits, and 255, each behind one byte
-  header_there : (side w : ℕ) → past_magic (pre ++ t) ≡ 2 → past_space false 2 (drop 2 (pre ++ t)) ≡ length pre + 0
+  header_there : (side w : ℕ) → past_magic (pre ++ t) ≡ Some 2 → past_space false 2 (drop 2 (pre ++ t)) ≡ length pre + 0
       → Digits 0 w side
       → Blank (suc w) → Digits (suc (suc w)) w side
       → Blank (suc (suc w) + suc w) → Digits (suc (suc (suc w) + suc w)) 2 255
       → get_or t (suc (suc (suc w) + suc w) + 3) 0 ≡ 10
-      → header_of (pre ++ t) ≡ record { right = true; width = side; height = side; most = 255; start = length pre + suc (suc (suc (suc w) + suc w) + 3) }
+      → header_of (pre ++ t) ≡ Some (record { width = side; height = side; most = 255; start = length pre + suc (suc (suc (suc w) + suc w) + 3) })
   unfolding header_of
   header_there side w m p a b c d e f =
       let n = suc (suc (suc w) + suc w) + 3 in
-      rw (m, field_first w side p a, field_there (suc w) w side b c, field_there (suc (suc w) + suc w) 2 255 d e, raster_there n f, ne_eqb (length pre + suc n) 0 (λ e. omega (arith, e)))
+      rw (m, field_first w side p a, field_there (suc w) w side b c, field_there (suc (suc w) + suc w) 2 255 d e, raster_there n f)
 
 -- what stands before the sides: "P5", and the comment with its line end
 abbrev before : List ℕ → List ℕ
 before promise = ascii "P5\n# " ++ (promise ++ ascii "\n")
 
-abbrev read : ℕ → ℕ → Header
-read side start = record { right = true; width = side; height = side; most = 255; start = start }
+abbrev read : ℕ → ℕ → Option Header
+read side start = Some (record { width = side; height = side; most = 255; start = start })
 
 -- the header is taken apart behind its comment
 header_parts : (promise x raster : List ℕ) (side : ℕ) → header_of (before promise ++ (x ++ raster)) ≡ read side (length (before promise) + length x)
@@ -103,10 +104,10 @@ header_parts promise x raster side e =
     let long : length (before promise) + length x ≡ length (ascii "P5\n# " ++ (promise ++ (ascii "\n" ++ x))) = omega (arith, length-append promise (ascii "\n"), length-append promise (ascii "\n" ++ x)) in
     ap (λ (l : List ℕ). header_of (ascii "P5\n# " ++ l)) parts ∙ (e ∙ ap (read side) long)
 
--- the header read is right, has the side and greys to 255, and the raster begins where the header ends; of the sides that are held it
+-- the header read has the side and greys to 255, and the raster begins where the header ends; of the sides that are held it
 -- gives k back, of smaller ones nothing
 pub record ReadBack (k : ℕ) (promise raster : List ℕ) : Type 0 where
-  pub header : header_of (header_text k promise ++ raster) ≡ record { right = true; width = 2 ^ k; height = 2 ^ k; most = 255; start = length (header_text k promise) }
+  pub header : header_of (header_text k promise ++ raster) ≡ Some (record { width = 2 ^ k; height = 2 ^ k; most = 255; start = length (header_text k promise) })
   pub side : side_of (2 ^ k) (2 ^ k) ≡ pick (leb 3 k) k 0
 
 pub record HeadersReadBack (promise raster : List ℕ) : Type 0 where

@@ -1,26 +1,24 @@
--- One more byte of each sum, and no byte left. Assumes nothing.
+-- The sums as the library writes them, one more byte of the weighed one, and no byte left. Assumes nothing.
 use Prim.Native.Nat.{ℕ, ◌+◌, ◌*◌, ◌<◌, ◌≤◌}
-use mathlib.Core.Path.{◌≡◌, ap, ◌∙◌, sym}
+use mathlib.Core.Path.{◌≡◌, refl, ap, ◌∙◌, sym}
 use mathlib.Core.List.{List}
 use native.Mathlib.Numerals.{add-one}
 use native.Mathlib.Nat.{mul-le-mul}
 use native.Mathlib.Omega.{arith}
 use lib.ListN.{length, drop, get_or}
 use lib.Seq.{drop-cons, drop-length}
+use Rattle.std.specs.List.{sum_by}
+use Rattle.std.proofs.lemmas.List.Recursion.{is_sum_by}
 use Rattle.paper.specs.Block.{plain_sum, weighed_sum, checks_start}
 
-pub plain_more : (s : List ℕ) (i : ℕ) → i < length s → plain_sum (drop i s) ≡ get_or s i 0 + plain_sum (drop (i + 1) s)
+pub plain_is_sum : (s : List ℕ) → plain_sum s ≡ sum_by (λ v. v) s
 unfolding plain_sum
-plain_more s i h = rw (add-one, drop-cons s i 0)
+plain_is_sum s = is_sum_by plain_sum (λ v. v) refl (λ v t. refl) s
 
 pub weighed_more : (s : List ℕ) (i : ℕ) → i < length s → weighed_sum i (drop i s) ≡ (i + 1) * get_or s i 0 + weighed_sum (i + 1) (drop (i + 1) s)
 unfolding weighed_sum
 weighed_more s i h =
     ap (weighed_sum i) (drop-cons s i 0 h) ∙ ap (λ (n : ℕ). (i + 1) * get_or s i 0 + weighed_sum (i + 1) (drop n s)) (sym (add-one i))
-
-pub plain_end : (s : List ℕ) (i : ℕ) → i ≡ length s → plain_sum (drop i s) ≡ 0
-unfolding plain_sum
-plain_end s i e = rw (e, drop-length)
 
 pub weighed_end : (s : List ℕ) (i : ℕ) → i ≡ length s → weighed_sum i (drop i s) ≡ 0
 unfolding weighed_sum

@@ -7,7 +7,7 @@ use native.Mathlib.Omega.{arith}
 use lib.Dec.{leb}
 use lib.IntN.{ℤ}
 use lib.ListN.{length, take}
-use borrow.Author.Tests.{le-leb, lt-leb, leb-true}
+use borrow.Author.Tests.{leb-true}
 use Rattle.paper.specs.Sizes.{most_size, most_levels, levels_in, halvings_in, numbers_in, unless}
 use Rattle.paper.specs.Square.{greys_of, pictured, thumbnail_of}
 use Rattle.paper.specs.Jobs.{sizes_refusal, is_square, thumbnail_refusal, thumbnail_job}
@@ -17,23 +17,13 @@ use Rattle.square_laws.specs.Thumbnail.{first_le, length_first_numbers}
 use Rattle.transform.proofs.Refusals.{sizes_refused, sizes_right, squares_are, job_done}
 
 -- ---- r
-pub halvings_none : (L r : ℕ) → r < 1 → false ≡ halvings_in L r
-unfolding halvings_in
-halvings_none L r h = rw (lt-leb 1 r h)
-
-pub halvings_some : (L r : ℕ) → 1 ≤ r → leb r L ≡ halvings_in L r
-unfolding halvings_in
-halvings_some L r h = rw (le-leb 1 r h)
-
 pub halvings_few : (L r : ℕ) → halvings_in L r ≡ true → r ≤ L
 unfolding halvings_in
 halvings_few L r e = leb-true r L (both_second (leb 1 r) (leb r L) e)
 
 -- where sizes are right too, it is below k
-pub halvings_below : (k L r n : ℕ) → n ≡ sizes_refusal k L 0 → n ≤ 0 → halvings_in L r ≡ true → r < k
-halvings_below k L r n e h f =
-    let z : n ≡ 0 = omega arith in
-    omega (arith, halvings_few L r f, levels_less k L (levels_accepted k L 0 (sym e ∙ z)))
+pub halvings_below : (k L r : ℕ) → 0 ≡ sizes_refusal k L 0 → halvings_in L r ≡ true → r < k
+halvings_below k L r e f = omega (arith, halvings_few L r f, levels_less k L (levels_accepted k L 0 (sym e)))
 
 -- where lengths are right, the room is no longer than the numbers
 pub room_within : (k r numbers picture room : ℕ) → (is_square k numbers && is_square (k - r) picture && is_square (k - r) room) ≡ true → room ≤ numbers
@@ -42,34 +32,34 @@ room_within k r numbers picture room s =
     omega (arith, q.0, q.2, first_le k r)
 
 -- ---- the rows, as they are judged one after the other
-module _ (k L r : ℕ) (numbers : List ℤ) (picture : List ℕ) (room : List ℤ) (n : ℕ) (e : n ≡ sizes_refusal k L 0) where
-  pub sizes_judged : 0 < n → n ≡ thumbnail_refusal k L r numbers picture room
+module _ (k L r : ℕ) (numbers : List ℤ) (picture : List ℕ) (room : List ℤ) where
+  pub sizes_judged : (n : ℕ) → n ≡ sizes_refusal k L 0 → 0 < n → n ≡ thumbnail_refusal k L r numbers picture room
   unfolding thumbnail_refusal
-  sizes_judged = sizes_refused k L _ n e
+  sizes_judged n = sizes_refused k L _ n
 
-  module _ (h : n ≤ 0) where
+  module _ (e : 0 ≡ sizes_refusal k L 0) where
     pub halvings_refused : halvings_in L r ≡ false → 13 ≡ thumbnail_refusal k L r numbers picture room
     unfolding thumbnail_refusal
-    halvings_refused f = rw (sizes_right k L _ n e h, f)
+    halvings_refused f = rw (sizes_right k L _ e, f)
 
     module _ (f : halvings_in L r ≡ true) where
       pub lengths_refused : (is_square k (length numbers) && is_square (k - r) (length picture) && is_square (k - r) (length room)) ≡ false → 3 ≡ thumbnail_refusal k L r numbers picture room
       unfolding thumbnail_refusal
-      lengths_refused s = rw (sizes_right k L _ n e h, f, s)
+      lengths_refused s = rw (sizes_right k L _ e, f, s)
 
       module _ (s : (is_square k (length numbers) && is_square (k - r) (length picture) && is_square (k - r) (length room)) ≡ true) where
         pub numbers_judged : (b : Bool) → numbers_in (take (length room) numbers) ≡ b → unless 4 b 0 ≡ thumbnail_refusal k L r numbers picture room
         unfolding thumbnail_refusal
-        numbers_judged b q = rw (sizes_right k L _ n e h, f, s, ← (squares_are k (k - r) (length numbers) (length picture) (length room) s).2, q)
+        numbers_judged b q = rw (sizes_right k L _ e, f, s, ← (squares_are k (k - r) (length numbers) (length picture) (length room) s).2, q)
 
 -- ---- what no refusal says, in the order in which the work asks for it
-module _ (k L r : ℕ) (numbers : List ℤ) (picture : List ℕ) (room : List ℤ) (n : ℕ) (e : n ≡ thumbnail_refusal k L r numbers picture room) (h : n ≤ 0) where
+module _ (k L r : ℕ) (numbers : List ℤ) (picture : List ℕ) (room : List ℤ) (e : 0 ≡ thumbnail_refusal k L r numbers picture room) where
   abbrev lengths : Bool
   lengths = is_square k (length numbers) && is_square (k - r) (length picture) && is_square (k - r) (length room)
 
   passed : sizes_refusal k L (unless 13 (halvings_in L r) (unless 3 lengths (unless 4 (numbers_in (take (4 ^ (k - r)) numbers)) 0))) ≡ 0
   unfolding thumbnail_refusal
-  passed = let z : n ≡ 0 = omega arith in sym e ∙ z
+  passed = sym e
 
   levels : levels_in k L ≡ true
   levels = levels_accepted k L _ passed
@@ -105,4 +95,4 @@ module _ (k L r : ℕ) (numbers : List ℤ) (picture : List ℕ) (room : List �
   pub thumbnail_done : (seen : List ℕ) (greys : List ℤ) → seen ≡ pictured (k - r) (greys_of (k - r) (L - r) (take (length room) numbers)) → greys ≡ greys_of (k - r) (L - r) (take (length room) numbers)
       → thumbnail_job k L r numbers picture room ≡ record { refusal = 0; picture = seen; room = greys }
   unfolding thumbnail_job thumbnail_of
-  thumbnail_done seen greys f g = job_done (thumbnail_refusal k L r numbers picture room) n _ _ e h ∙ rw (f, g, squared.2)
+  thumbnail_done seen greys f g = job_done (thumbnail_refusal k L r numbers picture room) _ _ e ∙ rw (f, g, squared.2)

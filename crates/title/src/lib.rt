@@ -1,97 +1,80 @@
-// The title of what decode says of a picture, plain or softer, or of a thumbnail, in lent room: the verdict, label and side, arm and
+// The title of what decode says of a picture, plain or softer, or of a thumbnail, as a line: the verdict, label and side, arm and
 // mount, blocks.
 #![tactic(auto)]
 
 ghost use Rattle.std.specs.Prelude.{◌≡◌};
-ghost use Rattle.words.specs.Line.{on};
 ghost use Rattle.title.specs.Title.{titled, is_long, shot_by, awaits, counted};
 
 use block::CHECKS;
-use sizes::less;
-use words::{put, put_either, put_figure, put_figures, put_number};
-use worth::{is_softer, is_whole, put_of_side, put_softer, put_word, side};
+use words::Line;
+use worth::{Decoded, side};
+
+// What a record says of where its picture was shot. Edition 1 says nothing of it. Numbers, and not the enum of a block's heading, since
+// `report_of` says what is put for any of them.
+#[derive(Clone, Copy)]
+pub struct Origin {
+    pub edition: u32,
+    pub arm: u32,
+    pub mount: u32,
+}
 
 // The verdict, the label, whether it is a thumbnail or softer, and the side.
-pub fn put_title(
-    label: &[u8],
-    k: u32,
-    halvings: u32,
-    softer: bool,
-    unfinished: u32,
-    line: &mut [u8],
-) -> usize
-    ensures { titled label.now k halvings softer unfinished (on line.old 0) ≡ on line.new result }
+#[tactic(auto, unfolding(crate::specs::Title::titled, worth::specs::Worth::of_thumbnail))]
+pub fn put_title(label: &[u8], decoded: Decoded, line: &mut Line<'_>)
+    ensures { titled label.now decoded.k decoded.halvings decoded.softer decoded.unfinished line.old ≡ line.new }
 {
-    let verdict = put_word(unfinished, line, 0);
-    let blank = put(b" ", line, verdict);
-    let named = put(label, line, blank);
-    let kind = put_either(halvings == 0, b"", b", thumbnail", line, named);
-    let softened = put_softer(softer, unfinished, line, kind);
-    let shown = put_figure(b", side ", side(less(k, halvings)), line, softened);
-    put_of_side(b" of ", k, halvings, line, shown)
+    line.put(decoded.word());
+    line.put(b" ");
+    line.put(label);
+    line.put_either(decoded.halvings == 0, b"", b", thumbnail");
+    line.put(decoded.softer_word());
+    let shown = decoded.k.saturating_sub(decoded.halvings);
+    line.put_figure(b", side ", side(shown));
+    decoded.put_of_side(b" of ", line);
 }
 
 // Whether the title is long: a thumbnail's or a softer picture's.
-pub fn is_long(halvings: u32, softer: bool, unfinished: u32) -> bool
-    ensures { result ≡ is_long halvings softer unfinished }
+#[tactic(auto, unfolding(crate::specs::Title::is_long))]
+pub fn is_long(decoded: Decoded) -> bool
+    ensures { result ≡ is_long decoded.halvings decoded.softer decoded.unfinished }
 {
-    if halvings == 0 {
-        return is_softer(softer, unfinished);
-    }
-    true
+    decoded.halvings != 0 || decoded.is_softer()
 }
 
 // The arm and its mount number, which edition 1 does not name, and the end of the title.
-pub fn put_origin(
-    long: bool,
-    edition: u32,
-    arm: u32,
-    mount: u32,
-    line: &mut [u8],
-    at: usize,
-) -> usize
-    ensures { shot_by long (record { edition = edition; arm = arm; mount = mount }) (on line.old at) ≡ on line.new result }
+#[tactic(auto, unfolding(crate::specs::Title::shot_by, crate::specs::Title::colon))]
+pub fn put_origin(long: bool, origin: Origin, line: &mut Line<'_>)
+    ensures { shot_by long (record { edition = origin.edition; arm = origin.arm; mount = origin.mount }) line.old ≡ line.new }
 {
-    if edition == 1 {
-        return put(b": ", line, at);
+    if origin.edition == 1 {
+        line.put(b": ");
+        return;
     }
-    let shot = put_figures(b", arm ", arm as u64, b", mount ", mount as u64, line, at);
-    put_either(long, b":\n  ", b": ", line, shot)
+    line.put_figures(
+        b", arm ",
+        u64::from(origin.arm),
+        b", mount ",
+        u64::from(origin.mount),
+    );
+    line.put_either(long, b":\n  ", b": ");
 }
 
-// Whether more blocks were expected.
-fn awaits_more(edition: u32, blocks: usize, bits: usize, unfinished: u32) -> bool
-    ensures { result ≡ awaits edition blocks bits unfinished }
+// Whether more blocks were expected: planes are unfinished, and the bits fill all blocks.
+#[tactic(auto, using(block::proofs::Editions::start_most), unfolding(crate::specs::Title::awaits))]
+fn awaits_more(edition: u32, decoded: Decoded, bits: usize) -> bool
+    ensures { result ≡ awaits edition decoded.blocks bits decoded.unfinished }
 {
-    if is_whole(unfinished) {
-        return false;
-    }
     let full = 8 * (CHECKS - block::payload_start(edition));
-    if bits / full != blocks {
-        return false;
-    }
-    bits % full == 0
+    !decoded.is_whole() && full.checked_mul(decoded.blocks) == Some(bits)
 }
 
-// The blocks that were kept, and whether more were expected.
-pub fn put_blocks(
-    edition: u32,
-    blocks: usize,
-    bits: usize,
-    unfinished: u32,
-    line: &mut [u8],
-    at: usize,
-) -> usize
-    ensures { counted edition blocks bits unfinished (on line.old at) ≡ on line.new result }
+// The blocks that were kept, and whether more were expected: said of every edition (`counted`).
+#[tactic(auto, unfolding(crate::specs::Title::counted, crate::specs::Title::plural, crate::specs::Title::expected))]
+pub fn put_blocks(edition: u32, decoded: Decoded, bits: usize, line: &mut Line<'_>)
+    ensures { counted edition decoded.blocks bits decoded.unfinished line.old ≡ line.new }
 {
-    let number = put_number(blocks as u64, line, at);
-    let counted = put_either(blocks == 1, b" block, ", b" blocks, ", line, number);
-    let more = awaits_more(edition, blocks, bits, unfinished);
-    put_either(
-        more,
-        b"more expected\n",
-        b"no more expected\n",
-        line,
-        counted,
-    )
+    let more = awaits_more(edition, decoded, bits);
+    line.put_number(decoded.blocks as u64);
+    line.put_either(decoded.blocks == 1, b" block, ", b" blocks, ");
+    line.put_either(more, b"more expected\n", b"no more expected\n");
 }

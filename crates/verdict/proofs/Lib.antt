@@ -1,4 +1,3 @@
--- Laws of what decode says, and that all of it is said.
-pub mod Laws
+-- That what decode says is settled by its contract, and that all of it is said.
 pub mod Told
 pub mod Room

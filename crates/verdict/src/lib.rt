@@ -1,17 +1,23 @@
-// What decode says of a picture, or of a thumbnail, as lines in lent room: the verdict first, then what it is worth. Halvings, how
-// often a thumbnail's side was halved, are 0 for the picture itself; softer says that a softer one was asked for.
+// What decode says of a picture, or of a thumbnail, as lines: the verdict first, then what it is worth.
 #![tactic(auto)]
 
 ghost use Rattle.std.specs.Prelude.{◌≡◌};
-ghost use Rattle.words.specs.Line.{on};
 ghost use Rattle.verdict.specs.Verdict.{share_of, running, planes, report_of};
 
-use sizes::less;
-use title::{is_long, put_blocks, put_origin, put_title};
-use words::{put, put_figure, put_figures};
-use worth::{put_worth, side};
+use title::{Origin, is_long, put_blocks, put_origin, put_title};
+use words::Line;
+use worth::{Decoded, side};
 
-// How much of the plane that is running is in, in whole per cent: `place` is the first number that it has not settled.
+// How far into the planes the bits went: `place` is the first number that the plane which is running has not settled.
+#[derive(Clone, Copy)]
+pub struct Depth {
+    pub planes: u32,
+    pub bits: usize,
+    pub place: usize,
+}
+
+// How much of the plane that is running is in, in whole per cent.
+#[tactic(auto, using(worth::proofs::Laws::side_most), unfolding(crate::specs::Verdict::share_of))]
 fn share(k: u32, place: usize) -> u64
     ensures { result ≡ share_of k place }
 {
@@ -24,75 +30,55 @@ fn share(k: u32, place: usize) -> u64
 }
 
 // Where planes are unfinished, how much of the next one is in.
-fn put_running(k: u32, unfinished: u32, place: usize, line: &mut [u8], at: usize) -> usize
-    ensures { running k unfinished place (on line.old at) ≡ on line.new result }
+#[tactic(auto, unfolding(crate::specs::Verdict::running))]
+fn put_running(decoded: Decoded, place: usize, line: &mut Line<'_>)
+    ensures { running decoded.k decoded.unfinished place line.old ≡ line.new }
 {
-    if unfinished == 0 {
-        return at;
+    if decoded.is_whole() {
+        return;
     }
-    let part = put_figure(b" and ", share(k, place), line, at);
-    put(b"% of the next", line, part)
+    line.put_figure(b" and ", share(decoded.k, place));
+    line.put(b"% of the next");
 }
 
 // Planes, levels and bits, for those who want them.
-fn put_planes(
-    k: u32,
-    levels: u32,
-    n: u32,
-    unfinished: u32,
-    place: usize,
-    bits: usize,
-    line: &mut [u8],
-    at: usize,
-) -> usize
-    ensures { planes k levels n unfinished place bits (on line.old at) ≡ on line.new result }
+#[tactic(auto, unfolding(crate::specs::Verdict::planes))]
+fn put_planes(decoded: Decoded, depth: Depth, line: &mut Line<'_>)
+    ensures { planes decoded.k decoded.levels depth.planes decoded.unfinished depth.place depth.bits line.old ≡ line.new }
 {
-    let finished = less(n, unfinished) as u64;
-    let done = put_figures(
+    let finished = depth.planes.saturating_sub(decoded.unfinished);
+    line.put_figures(
         b"  planes finished: ",
-        finished,
+        u64::from(finished),
         b" of ",
-        n as u64,
-        line,
-        at,
+        u64::from(depth.planes),
     );
-    let next = put_running(k, unfinished, place, line, done);
-    let read = put_figures(
+    put_running(decoded, depth.place, line);
+    line.put_figures(
         b", levels: ",
-        levels as u64,
+        u64::from(decoded.levels),
         b", bits: ",
-        bits as u64,
-        line,
-        next,
+        depth.bits as u64,
     );
-    put(b"\n", line, read)
+    line.put(b"\n");
 }
 
 // The lines of what was decoded; `ended` says what ended the run.
+#[tactic(auto, unfolding(crate::specs::Verdict::report_of))]
 pub fn report(
     label: &[u8],
-    k: u32,
-    levels: u32,
-    halvings: u32,
-    softer: bool,
-    edition: u32,
-    arm: u32,
-    mount: u32,
-    n: u32,
-    blocks: usize,
-    bits: usize,
-    unfinished: u32,
-    place: usize,
+    decoded: Decoded,
+    origin: Origin,
+    depth: Depth,
     ended: &[u8],
-    line: &mut [u8],
-) -> usize
-    ensures { report_of label.now k levels halvings softer (record { edition = edition; arm = arm; mount = mount }) n blocks bits unfinished place ended.now (on line.old 0) ≡ on line.new result }
+    line: &mut Line<'_>,
+)
+    ensures { report_of label.now decoded.k decoded.levels decoded.halvings decoded.softer (record { edition = origin.edition; arm = origin.arm; mount = origin.mount }) depth.planes decoded.blocks depth.bits decoded.unfinished depth.place ended.now line.old ≡ line.new }
 {
-    let title = put_title(label, k, halvings, softer, unfinished, line);
-    let long = is_long(halvings, softer, unfinished);
-    let shot = put_origin(long, edition, arm, mount, line, title);
-    let counted = put_blocks(edition, blocks, bits, unfinished, line, shot);
-    let told = put_worth(levels, halvings, unfinished, blocks, line, counted);
-    let depth = put_planes(k, levels, n, unfinished, place, bits, line, told);
-    put(ended, line, depth)
+    put_title(label, decoded, line);
+    put_origin(is_long(decoded), origin, line);
+    put_blocks(origin.edition, decoded, depth.bits, line);
+    decoded.put_worth(line);
+    put_planes(decoded, depth, line);
+    line.put(ended);
 }

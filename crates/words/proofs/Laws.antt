@@ -51,10 +51,6 @@ puts_inside line text h = go (leb (line.at + length text) (length line.bytes)) r
 pub pick_inside : (b : Bool) (x y : Line) → Inside x → Inside y → Inside (pick b x y)
 pick_inside = either Inside
 
--- what a line became, and that it ends within its room
-pub and_inside : (line : Line) (bytes : List ℕ) (at : ℕ) → Inside line → line ≡ on bytes at → (line ≡ on bytes at) × (at ≤ length bytes)
-and_inside line bytes at h e = (e, rw e at h)
-
 -- two texts one behind the other are one text, where there is room for both
 module _ (bytes a b : List ℕ) (at : ℕ) (h : at + (length a + length b) ≤ length bytes) where
   front : List ℕ

@@ -1,61 +1,27 @@
--- The side of a square, and what is said of a thumbnail or of a softer picture alone, by what the code tests; and how long what is
--- said can be.
+-- How long what is said can be.
 use mathlib.Core.Path.{◌≡◌, refl}
 use mathlib.Core.Bool.{Bool, true, false}
 use mathlib.Core.List.{List, [], ◌∷◌, ◌++◌}
 use Prim.Native.Nat.{ℕ, zero, suc, ◌+◌, ◌/◌, ◌%◌, ◌^◌, ◌<◌, ◌≤◌}
 use native.Mathlib.Omega.{arith}
-use native.Mathlib.Nat.{pow-suc}
+use native.Mathlib.Nat.{pow-suc, pow-le-pow_right}
 use lib.Dec.{leb, ltb, eqb}
 use lib.ListN.{length, length-append}
-use borrow.Author.Tests.{eq-eqb, ne_eqb, le-leb, lt-leb, leb-true, lt-ltb}
+use borrow.Author.Tests.{leb-true, lt-ltb}
 use Rattle.paper.specs.Lists.{pick}
 use Rattle.paper.specs.Sizes.{most_size, grey_limit}
-use Rattle.places.proofs.Steps.{side_small}
 use Rattle.pgm.specs.Ascii.{decimal}
 use Rattle.words.specs.Line.{figure}
 use Rattle.words.proofs.Laws.{either}
 use Rattle.worth.specs.Worth.{word, side_of, of_thumbnail, is_softer, of_softer}
-
-pub no_side : (k : ℕ) → most_size < k → 0 ≡ side_of k
-unfolding side_of
-no_side k h = rw (lt-leb k most_size h)
-
-pub side_is : (k : ℕ) → k ≤ most_size → 2 ^ k ≡ side_of k
-unfolding side_of
-side_is k h = rw (le-leb k most_size h)
 
 pub side_most : (k : ℕ) → side_of k ≤ 256
 unfolding side_of
 side_most k = go (leb k most_size) refl
   where
     go : (b : Bool) → leb k most_size ≡ b → pick b (2 ^ k) 0 ≤ 256
-    go true e = side_small k (leb-true k most_size e)
+    go true e = pow-le-pow_right {n = 2} (omega arith) (leb-true k most_size e)
     go false e = omega arith
-
--- said of a thumbnail, and left out of a picture
-module _ (r : ℕ) (text : List ℕ) where
-  pub thumbnail_is : of_thumbnail r text ≡ pick (eqb r 0) [] text
-  unfolding of_thumbnail
-  thumbnail_is = refl
-
-  pub thumbnail_unsaid : r ≡ 0 → of_thumbnail r text ≡ []
-  unfolding of_thumbnail
-  thumbnail_unsaid e = rw (eq-eqb r 0 e)
-
-  pub thumbnail_said : (r ≡ 0 → ⊥) → of_thumbnail r text ≡ text
-  unfolding of_thumbnail
-  thumbnail_said h = rw (ne_eqb r 0 h)
-
--- softer where planes are unfinished, if it is asked for
-module _ (softer : Bool) (p : ℕ) where
-  pub softer_none : eqb p 0 ≡ true → false ≡ is_softer softer p
-  unfolding is_softer
-  softer_none u = rw u
-
-  pub softer_asked : eqb p 0 ≡ false → softer ≡ is_softer softer p
-  unfolding is_softer
-  softer_asked u = rw u
 
 -- ---- none of it is long
 abbrev pub AtMost : ℕ → List ℕ → Type 0

@@ -1,118 +1,131 @@
-// What was decoded, a picture or a thumbnail, and what its greys are worth, as lines in lent room. Halvings, how often a
-// thumbnail's side was halved, are 0 for the picture itself; softer says that a softer one was asked for.
+// What was decoded, a picture or a thumbnail, and what its greys are worth, as a line.
 #![tactic(auto)]
 
 ghost use Rattle.std.specs.Prelude.{◌≡◌, ◌-◌, eqb};
 ghost use Rattle.paper.specs.Sizes.{grey_limit};
-ghost use Rattle.words.specs.Line.{on, ◌puts◌, figure};
+ghost use Rattle.words.specs.Line.{◌puts◌, figure};
 ghost use Rattle.worth.specs.Worth.{word, side_of, of_thumbnail, is_softer, of_softer, one_shot, kind, worth};
 
-use sizes::less;
-use words::{put, put_either, put_figure};
+use sizes::Size;
+use words::Line;
 
-// Only a picture with no unfinished plane is whole.
-pub fn is_whole(unfinished: u32) -> bool
-    ensures { result ≡ eqb unfinished 0 }
-{
-    unfinished == 0
+// What was decoded of a picture of side 2 ^ k.
+#[derive(Clone, Copy)]
+pub struct Decoded {
+    pub k: u32,
+    pub levels: u32,
+    // How often a thumbnail's side was halved, a count: not once for the picture itself.
+    pub halvings: u32,
+    // Whether a softer one was asked for.
+    pub softer: bool,
+    // The planes that are not settled.
+    pub unfinished: u32,
+    // The blocks that were kept.
+    pub blocks: usize,
 }
 
-// WHOLE, or CUT where planes are unfinished.
-pub fn put_word(unfinished: u32, line: &mut [u8], at: usize) -> usize
-    ensures { on line.old at puts word unfinished ≡ on line.new result }
-{
-    put_either(is_whole(unfinished), b"WHOLE", b"CUT", line, at)
+impl Decoded {
+    // Only a picture with no unfinished plane is whole.
+    pub fn is_whole(self) -> bool
+        ensures { result ≡ eqb self.unfinished 0 }
+    {
+        self.unfinished == 0
+    }
+
+    // WHOLE, or CUT where planes are unfinished.
+    #[tactic(auto, unfolding(crate::specs::Worth::word))]
+    pub fn word(self) -> &'static [u8]
+        ensures { result.now ≡ word self.unfinished }
+    {
+        if self.is_whole() { b"WHOLE" } else { b"CUT" }
+    }
+
+    // Whether it is a softer picture: where no plane is unfinished nothing was moved, and it is the plain one.
+    #[tactic(auto, unfolding(crate::specs::Worth::is_softer))]
+    pub fn is_softer(self) -> bool
+        ensures { result ≡ is_softer self.softer self.unfinished }
+    {
+        !self.is_whole() && self.softer
+    }
+
+    // The word that is said of a softer picture alone.
+    #[tactic(auto, unfolding(crate::specs::Worth::of_softer))]
+    pub fn softer_word(self) -> &'static [u8]
+        ensures { result.now ≡ of_softer self.softer self.unfinished }
+    {
+        if self.is_softer() { b", softer" } else { b"" }
+    }
+
+    // What was shown: the picture or a thumbnail.
+    #[tactic(auto, unfolding(crate::specs::Worth::kind))]
+    fn kind(self) -> &'static [u8]
+        ensures { result.now ≡ kind self.halvings }
+    {
+        if self.halvings == 0 {
+            b"picture"
+        } else {
+            b"thumbnail"
+        }
+    }
+
+    // The condition of every promise: the theorems are about one coding.
+    #[tactic(auto, unfolding(crate::specs::Worth::one_shot))]
+    fn one_shot(self) -> &'static [u8]
+        ensures { result.now ≡ one_shot self.blocks }
+    {
+        if self.blocks <= 1 {
+            b"\n"
+        } else {
+            b", if its blocks are of one shot\n"
+        }
+    }
+
+    // How far its greys can be off: a thumbnail undoes fewer levels.
+    pub fn limit(self) -> u32
+        ensures { result ≡ grey_limit (self.levels - self.halvings) self.unfinished }
+    {
+        sizes::grey_limit(self.levels.saturating_sub(self.halvings), self.unfinished)
+    }
+
+    // A text and the picture's side, said of a thumbnail alone.
+    #[tactic(auto, using(words::proofs::Laws::put_nothing), unfolding(crate::specs::Worth::of_thumbnail))]
+    pub fn put_of_side(self, text: &[u8], line: &mut Line<'_>)
+        ensures { line.old puts of_thumbnail self.halvings text.now puts of_thumbnail self.halvings (figure (side_of self.k)) ≡ line.new }
+    {
+        if self.halvings != 0 {
+            line.put_figure(text, side(self.k));
+        }
+    }
+
+    // How far the greys can be off.
+    #[tactic(auto, unfolding(crate::specs::Worth::worth))]
+    pub fn put_worth(self, line: &mut Line<'_>)
+        ensures { worth self.levels self.halvings self.unfinished self.blocks line.old ≡ line.new }
+    {
+        if self.is_whole() {
+            line.put(b"  every grey is right: the very ");
+            line.put(self.kind());
+            line.put(self.one_shot());
+            return;
+        }
+        let limit = self.limit();
+        if limit == 255 {
+            line.put(b"  any grey may be wrong: too little is left to promise more\n");
+            return;
+        }
+        line.put_figure(b"  no grey is off by more than ", u64::from(limit));
+        line.put(b" of 255");
+        line.put(self.one_shot());
+    }
 }
 
-// S, and 0 where it is beyond the largest.
+// S, and 0 where it is beyond the largest. No Option: the lines say a number there too, by `side_of`.
+#[tactic(auto, unfolding(crate::specs::Worth::side_of))]
 pub fn side(k: u32) -> u64
     ensures { result ≡ side_of k }
 {
     if sizes::MOST_SIZE < k {
         return 0;
     }
-    places::side(k) as u64
-}
-
-// A text and the picture's side, said of a thumbnail alone.
-pub fn put_of_side(text: &[u8], k: u32, halvings: u32, line: &mut [u8], at: usize) -> usize
-    ensures { on line.old at puts of_thumbnail halvings text.now puts of_thumbnail halvings (figure (side_of k)) ≡ on line.new result }
-{
-    if halvings == 0 {
-        return at;
-    }
-    put_figure(text, side(k), line, at)
-}
-
-// Whether it is a softer picture: where no plane is unfinished nothing was moved, and it is the plain one.
-pub fn is_softer(softer: bool, unfinished: u32) -> bool
-    ensures { result ≡ is_softer softer unfinished }
-{
-    if is_whole(unfinished) {
-        return false;
-    }
-    softer
-}
-
-// The word that is said of a softer picture alone.
-pub fn put_softer(softer: bool, unfinished: u32, line: &mut [u8], at: usize) -> usize
-    ensures { on line.old at puts of_softer softer unfinished ≡ on line.new result }
-{
-    put_either(is_softer(softer, unfinished), b", softer", b"", line, at)
-}
-
-// The condition of every promise: the theorems are about one coding.
-fn put_one_shot(blocks: usize, line: &mut [u8], at: usize) -> usize
-    ensures { on line.old at puts one_shot blocks ≡ on line.new result }
-{
-    put_either(
-        blocks <= 1,
-        b"\n",
-        b", if its blocks are of one shot\n",
-        line,
-        at,
-    )
-}
-
-// What was shown: the picture or a thumbnail.
-fn put_kind(halvings: u32, line: &mut [u8], at: usize) -> usize
-    ensures { on line.old at puts kind halvings ≡ on line.new result }
-{
-    put_either(halvings == 0, b"picture", b"thumbnail", line, at)
-}
-
-// The most that a grey can be off: a thumbnail undoes fewer levels.
-pub fn limit(levels: u32, halvings: u32, unfinished: u32) -> u32
-    ensures { result ≡ grey_limit (levels - halvings) unfinished }
-{
-    sizes::grey_limit(less(levels, halvings), unfinished)
-}
-
-// How far the greys can be off.
-pub fn put_worth(
-    levels: u32,
-    halvings: u32,
-    unfinished: u32,
-    blocks: usize,
-    line: &mut [u8],
-    at: usize,
-) -> usize
-    ensures { worth levels halvings unfinished blocks (on line.old at) ≡ on line.new result }
-{
-    if is_whole(unfinished) {
-        let right = put(b"  every grey is right: the very ", line, at);
-        let shown = put_kind(halvings, line, right);
-        return put_one_shot(blocks, line, shown);
-    }
-    let limit = limit(levels, halvings, unfinished);
-    if limit == 255 {
-        return put(
-            b"  any grey may be wrong: too little is left to promise more\n",
-            line,
-            at,
-        );
-    }
-    let off = put_figure(b"  no grey is off by more than ", limit as u64, line, at);
-    let most = put(b" of 255", line, off);
-    put_one_shot(blocks, line, most)
+    Size::new(k).side() as u64
 }

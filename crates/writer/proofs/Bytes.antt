@@ -8,7 +8,10 @@ use native.Mathlib.Nat.{mul_assoc, mul-le-mul}
 use native.Mathlib.Omega.{arith}
 use lib.ListN.{length, take, drop, get_or, set, replicate}
 use lib.Seq.{drop-drop, drop-cons, drop-length, set_at}
-use Rattle.paper.specs.Lists.{Bytes}
+use Rattle.std.specs.Int.{div_ceil}
+use Rattle.std.proofs.lemmas.Grind.{div_ceil_times}
+use Rattle.std.proofs.lemmas.Nat.{div-mul-add}
+use Rattle.paper.specs.Lists.{Bytes, parts}
 use Rattle.paper.specs.Bits.{bits, byte_of, packed}
 use Rattle.paper.specs.Block.{header_bytes, numbered_blocks, payload_bytes, payload_bits}
 use Rattle.paper.specs.Record.{bits_of_block}
@@ -61,6 +64,15 @@ pub zeros_left : (n m : ℕ) → drop n (replicate {A = ℕ} m 0) ≡ replicate 
 zeros_left zero m = let e : m ≡ m - 0 = omega arith in ap (λ k. replicate k 0) e
 zeros_left (suc n) zero = let e : 0 ≡ 0 - suc n = omega arith in ap (λ k. replicate k 0) e
 zeros_left (suc n) (suc m) = let e : m - n ≡ suc m - suc n = omega arith in zeros_left n m ∙ ap (λ k. replicate k 0) e
+
+-- how many parts hold a, as the library counts them
+pub parts_up : (a m : ℕ) → 0 < m → div_ceil a m ≡ parts a m
+parts_up a m h =
+    let few = div_ceil_times a m h in
+    let q : ℕ = div_ceil a m in
+    let r : ℕ = a + (m - 1) - q * m in
+    let e : a + (m - 1) ≡ q * m + r = omega arith in
+    sym (ap (λ (n : ℕ). n / m) e ∙ div-mul-add q m r (omega arith))
 
 -- no place in a record is beyond what numbered blocks hold
 pub place_small : (size i : ℕ) → size ≤ payload_bits header_bytes → i < numbered_blocks → size * i ≤ payload_bits header_bytes * numbered_blocks

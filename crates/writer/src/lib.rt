@@ -12,38 +12,36 @@ ghost use Rattle.block.specs.Origins.{origin_of};
 use block::{BLOCK, CHECKS, Heading, ROOM};
 
 // The byte at a place, of the first b bits alone: bits after the b-th count as 0.
+#[tactic(auto, using(crate::proofs::Bytes::byte_before, crate::proofs::Bytes::byte_seam, crate::proofs::Bytes::byte_none, crate::proofs::Bytes::byte_after))]
 fn byte_at(bytes: &[u8], b: usize, at: usize) -> u8
     requires { b ≤ 8 * length bytes.now }
     ensures { result ≡ byte_of 8 (drop (8 * at) (take b (bits bytes.now))) }
 {
     let whole = b / 8;
-    if at < whole {
-        return bytes[at];
-    }
-    if at > whole {
-        return 0;
-    }
     let used = b % 8;
-    if used == 0 {
-        return 0;
+    if at < whole {
+        bytes[at]
+    } else if at == whole && used > 0 {
+        bits::with_bit(bytes[at], used, false)
+    } else {
+        0
     }
-    bits::with_bit(bytes[at], used, false)
 }
 
 // The bytes from `start` on, of the first b bits alone.
+#[tactic(auto, using(crate::proofs::Bytes::filled_none, crate::proofs::Bytes::filled_more, crate::proofs::Bytes::filled))]
 fn fill(out: &mut [u8], bytes: &[u8], b: usize, start: usize)
     requires b_bound { b ≤ 8 * length bytes.now }
     requires out_bound { start + length out.old < 2 ^ 64 }
     ensures { out.new ≡ packed (length out.old) (drop (8 * start) (take b (bits bytes.now))) }
 {
-    let mut i = 0;
-    while i < out.len() {
-        out[i] = byte_at(bytes, b, start + i);
-        i += 1;
+    for (i, byte) in out.iter_mut().enumerate() {
+        *byte = byte_at(bytes, b, start + i);
     }
 }
 
 // The payload of block i, where a payload has `size` bytes, and zeros behind it up to the most that any has.
+#[tactic(auto, using(crate::proofs::Bytes::place_small))]
 fn payload(bytes: &[u8], b: usize, i: usize, size: usize) -> [u8; ROOM]
     requires b_bound { b ≤ 8 * length bytes.now }
     requires i_lt_numbered_blocks { i < numbered_blocks }
@@ -61,22 +59,18 @@ fn count_in(b: usize, i: usize, full: usize) -> usize
     requires full_bound { full ≤ payload_bits header_bytes }
     ensures { result ≡ min full (b - full * i) }
 {
-    let before = full * i;
-    if b <= before {
-        return 0;
-    }
-    let left = b - before;
-    if left < full { left } else { full }
+    b.saturating_sub(full * i).min(full)
 }
 
 // Block i of the record, by value.
+#[tactic(auto, using(block::proofs::Editions::start_least))]
 fn block_of(h: Heading, label: &[u8], bytes: &[u8], b: usize, i: usize) -> [u8; BLOCK]
     requires label_len { length label.now ≡ 8 }
     requires b_bound { b ≤ 8 * length bytes.now }
     requires i_lt_numbered_blocks { i < numbered_blocks }
-    ensures { result ≡ block_of (origin_of h) h.k h.levels h.n label.now (take b (bits bytes.now)) i }
+    ensures { result ≡ block_of (origin_of h.origin) h.k h.levels h.n label.now (take b (bits bytes.now)) i }
 {
-    let size = block::payload_bytes(h);
+    let size = block::payload_bytes(u32::from(h.origin.edition()));
     let part = payload(bytes, b, i, size);
     block::made(h, label, i, count_in(b, i, 8 * size), &part[0..size])
 }
@@ -87,10 +81,9 @@ fn put_block(place: &mut [u8], h: Heading, label: &[u8], bytes: &[u8], b: usize,
     requires label_len { length label.now ≡ 8 }
     requires b_bound { b ≤ 8 * length bytes.now }
     requires i_lt_numbered_blocks { i < numbered_blocks }
-    ensures { place.new ≡ block_of (origin_of h) h.k h.levels h.n label.now (take b (bits bytes.now)) i }
+    ensures { place.new ≡ block_of (origin_of h.origin) h.k h.levels h.n label.now (take b (bits bytes.now)) i }
 {
-    let block = block_of(h, label, bytes, b, i);
-    block::copy_in(place, &block);
+    place.copy_from_slice(&block_of(h, label, bytes, b, i));
 }
 
 // The record's blocks at the front of the room; what lies behind them is untouched.
@@ -106,23 +99,20 @@ pub fn write_blocks(
     requires label_len { length label.now ≡ 8 }
     requires b_bound { b ≤ 8 * length bytes.now }
     requires blocks_le_numbered_blocks { blocks ≤ numbered_blocks }
-    ensures { room.new ≡ joined blocks (block_of (origin_of h) h.k h.levels h.n label.now (take b (bits bytes.now))) ++ drop (block_bytes * blocks) room.old }
+    ensures { room.new ≡ joined blocks (block_of (origin_of h.origin) h.k h.levels h.n label.now (take b (bits bytes.now))) ++ drop (block_bytes * blocks) room.old }
 {
-    let mut number = 0;
-    while number < blocks {
+    for number in 0..blocks {
         let start = BLOCK * number;
-        let end = start + BLOCK;
-        put_block(&mut room[start..end], h, label, bytes, b, number);
-        number += 1;
+        put_block(&mut room[start..start + BLOCK], h, label, bytes, b, number);
     }
 }
 
 // The blocks of a record of b bits.
+// It takes the edition as a number: row 6 asks it before arm and mount are judged, so there is no `Origin` yet.
+#[tactic(auto, using(block::proofs::Editions::start_most))]
 pub fn blocks_for(edition: u32, b: usize) -> usize
-    requires { b ≤ payload_bits (start_of edition) * numbered_blocks }
     ensures { result ≡ blocks_for edition b }
 {
     let full = 8 * (CHECKS - block::payload_start(edition));
-    let parts = (b + (full - 1)) / full;
-    if parts < 1 { 1 } else { parts }
+    b.div_ceil(full).max(1)
 }

@@ -15,12 +15,6 @@ overflow_mul-high-2 c = let F = (fit c.args.k c.args.v c.requires c.ranges.v.fit
 pub overflow_add-result : goal.overflow_add-result
 overflow_add-result c = let F = (fit c.args.k c.args.v c.requires c.ranges.v.fits) in record { fits = omega (arith, F.all) }
 
-pub overflow_cast-result : goal.overflow_cast-result
-overflow_cast-result c = let F = (fit c.args.k c.args.v c.requires c.ranges.v.fits) in record { fits = omega (arith, F.all) }
-
-pub overflow_cast-result-else-b : goal.overflow_cast-result-else-b
-overflow_cast-result-else-b c = let F = (fit c.args.k c.args.v c.requires c.ranges.v.fits) in record { fits = omega (arith, F.all) }
-
 pub returns-then-b : goal.returns-then-b
 returns-then-b c = bit_one _ _ _ _ (fit c.args.k c.args.v c.requires c.ranges.v.fits) c.if-b.true
 

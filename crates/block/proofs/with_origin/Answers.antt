@@ -1,11 +1,21 @@
--- `with_origin` puts arm and mount behind the header, where the edition names them. Assumes nothing.
+-- `with_origin` puts arm and mount behind the header, where the origin names them. Assumes nothing.
+use Prim.Native.Nat.{ℕ}
 use native.Mathlib.Omega.{arith}
+use mathlib.Core.Path.{sym, ap, ◌∙◌}
+use mathlib.Core.List.{List, ◌++◌}
+use lib.ListN.{take, drop}
+use Rattle.paper.specs.Block.{header_bytes, start_of, named}
 use Rattle.block.specs.Origins.{origin_of}
-use Rattle.block.proofs.Copies.{no_origin_in, origin_in_lem}
+use Rattle.block.specs.declared.Origin.{Origin}
+use Rattle.block.specs.declared.Origin.TheVariants.{Second}
+use Rattle.block.proofs.Copies.{mount_in}
 use Rattle.block.proofs.with_origin.Goals as goal
 
-pub returns-then-h-eq1 : goal.returns-then-h-eq1
-returns-then-h-eq1 c = no_origin_in (origin_of c.args.h) c.args.from c.if-h-eq1.true
+-- what is to stand there
+abbrev placed : List ℕ → Origin → List ℕ
+placed from o = take header_bytes from ++ (named (origin_of o) ++ drop (start_of (origin_of o).edition) from)
 
-pub returns : goal.returns
-returns c = origin_in_lem (origin_of c.args.h) c.args.from c.if-h-eq1.false (omega arith)
+pub returns-in-Second : goal.returns-in-Second
+returns-in-Second c =
+    let o = Second c.in-Second.arm c.in-Second.mount in
+    mount_in (origin_of o) c.args.from _ (λ e. cc) (omega arith) (c.copy_from_slice.ensures.after ∙ c.three_bytes.ensures) ∙ ap (placed c.args.from) (sym c.in-Second.is)

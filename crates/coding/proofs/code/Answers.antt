@@ -1,32 +1,40 @@
 -- Refused with the number of its row, or done with what the planes wrote.
+use mathlib.Core.Path.{◌≡◌, ◌∙◌}
 use native.Mathlib.Omega.{arith}
+use Rattle.std.proofs.Common.{rules}
+use Rattle.set_coder.specs.Coded.{stands}
+use Rattle.std.proofs.lemmas.Result.{err_from_is_err_and}
 use Rattle.shapes.proofs.Cuts.{square_of}
-use Rattle.coding.proofs.Job.{accepted, planes_few, refused, done}
+use Rattle.coding.proofs.Job.{right, planes_few, job_refused, job_done}
 use Rattle.coding.proofs.code.Goals as goal
 
-pub returns-then-refused-gt0 : goal.returns-then-refused-gt0
-returns-then-refused-gt0 c = refused _ _ _ _ _ _ c.coding_refusal-refused.ensures (omega (arith, c.if-refused-gt0.true))
+pub returns-in_err-judge_coding : goal.returns-in_err-judge_coding
+returns-in_err-judge_coding c =
+    let p = err_from_is_err_and c.from_residual.result c.from_residual.ensures.1 in
+    rw (p.1, p.2) (job_refused c.args.k c.args.levels c.args.numbers.now c.args.limit _ _ c.in_err-judge_coding.ensures)
 
 pub plane_count-n-requires : goal.plane_count-n-requires
-plane_count-n-requires c =
-    let xs = c.args.numbers.now in
-    let A = accepted c.args.k c.args.levels _ xs c.coding_refusal-refused.ensures c.if-refused-gt0.false in
-    A.range
+plane_count-n-requires c = (right c.args.k c.args.levels c.args.numbers.now c.in_ok-judge_coding.ensures).range
+
+pub new-requires : goal.new-requires
+new-requires c = (right c.args.k c.args.levels c.args.numbers.now c.in_ok-judge_coding.ensures).high
 
 pub first_set-first-requires : goal.first_set-first-requires
-first_set-first-requires c =
-    let xs = c.args.numbers.now in
-    let A = accepted c.args.k c.args.levels _ xs c.coding_refusal-refused.ensures c.if-refused-gt0.false in
-    record { levels_lt_k = A.less; k_le_most_size = A.high }
+first_set-first-requires c = rw c.new.ensures (right c.args.k c.args.levels c.args.numbers.now c.in_ok-judge_coding.ensures).less
 
-pub code_planes-written-requires : goal.code_planes-written-requires
-code_planes-written-requires c =
+pub code_planes-requires : goal.code_planes-requires
+code_planes-requires c =
     let xs = c.args.numbers.now in
-    let A = accepted c.args.k c.args.levels _ xs c.coding_refusal-refused.ensures c.if-refused-gt0.false in
-    record { numbers_value = A.range; n_le_most_planes = omega (arith, c.plane_count-n.ensures, planes_few xs); limit_bound = omega (arith, c.room-most.ensures); square = square_of {k = c.args.k} {L = c.args.levels} A.less A.square c.first_set-first.ensures }
+    let R = right c.args.k c.args.levels xs c.in_ok-judge_coding.ensures in
+    record { n_le_most_planes = omega (arith, c.plane_count-n.ensures, planes_few xs); square = square_of {k = c.args.k} {L = c.args.levels} R.less R.square (rw c.new.ensures at c.first_set-first.ensures) }
 
 pub returns : goal.returns
 returns c =
     let xs = c.args.numbers.now in
-    let A = accepted c.args.k c.args.levels _ xs c.coding_refusal-refused.ensures c.if-refused-gt0.false in
-    done _ _ _ _ _ _ _ _ _ A c.plane_count-n.ensures c.room-most.ensures (c.code_planes-written.ensures (square_of {k = c.args.k} {L = c.args.levels} A.less A.square c.first_set-first.ensures))
+    let R = right c.args.k c.args.levels xs c.in_ok-judge_coding.ensures in
+    let K = square_of {k = c.args.k} {L = c.args.levels} R.less R.square (rw c.new.ensures at c.first_set-first.ensures) in
+    let starts : stands c.new-sink.result ≡ (c.args.bytes.now, 0) = λ i. (c.new-sink.ensures.bytes i, c.new-sink.ensures.place i) in
+    let coded = c.code_planes.ensures K in
+    let same = coded.same in
+    let e = job_done c.args.k c.args.levels xs c.args.limit c.args.bytes.now c.plane_count-n.result c.room-most.result c.new-sink.result c.code_planes.new.sink c.in_ok-judge_coding.ensures c.plane_count-n.ensures c.room-most.ensures starts c.new-sink.ensures.limit coded in
+    e ∙ search rules

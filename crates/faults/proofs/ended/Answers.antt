@@ -1,17 +1,10 @@
-use Rattle.faults.proofs.Laws.{ended_inside, ended_none, ended_told}
-use Rattle.words.proofs.Laws.{and_inside}
+use mathlib.Core.Path.{subst}
+use Rattle.words.proofs.Laws.{Inside, puts_inside}
+use Rattle.faults.proofs.Laws.{told_inside}
 use Rattle.faults.proofs.ended.Goals as goal
 
-pub returns-then-number-eq0 : goal.returns-then-number-eq0
-returns-then-number-eq0 c =
-    let a = c.args in
-    let inside = ended_inside a.line.now a.number a.blocks.now a.label.now a.i in
-    let h = and_inside _ a.line.now 0 inside (ended_none _ _ _ _ _ c.if-number-eq0.true) in
-    record { line_value = h.0; upper_bound = h.1 }
-
-pub returns : goal.returns
-returns c =
-    let a = c.args in
-    let inside = ended_inside a.line.now a.number a.blocks.now a.label.now a.i in
-    let h = and_inside _ c.put_told.new.line c.put_told.result inside (rw (ended_told _ _ _ _ _ c.if-number-eq0.false, c.put_figure-at.ensures, c.put-said.ensures) c.put_told.ensures) in
-    record { line_value = h.0; upper_bound = h.1 }
+pub returns-then-number-ne0-clause-upper_bound : goal.returns-then-number-ne0-clause-upper_bound
+returns-then-number-ne0-clause-upper_bound c = λ h.
+    let figure = subst Inside c.put_figure.ensures (puts_inside _ _ (puts_inside _ _ h)) in
+    let said = subst Inside c.put.ensures (puts_inside _ _ figure) in
+    subst Inside c.put_told.ensures (told_inside _ said _ _ _ _)

@@ -1,18 +1,12 @@
-use Rattle.faults.specs.Faults.{told}
-use borrow.Author.Tests.{eq-eqb, ne_eqb, le-leb, lt-leb}
+-- `put_told`: of a whole block out of its turn, the reasons too.
+use Rattle.std.proofs.Common.{rules, ap, ◌∙◌, sym, []}
+use native.Mathlib.Omega.{arith}
+use Rattle.words.specs.Line.{◌puts◌}
+use Rattle.faults.proofs.Laws.{told_turn}
+use Rattle.reader.proofs.Turn.{block_there}
 use Rattle.faults.proofs.put_told.Goals as goal
 
-pub put_fault-said-requires : goal.put_fault-said-requires
-put_fault-said-requires c = tt
-
-pub returns-then-number-ne10 : goal.returns-then-number-ne10
-unfolding told
-returns-then-number-ne10 c = rw (ne_eqb _ 10 c.if-number-ne10.true, c.put_fault-said.ensures)
-
-pub returns-then-blocks-i : goal.returns-then-blocks-i
-unfolding told
-returns-then-blocks-i c = rw (eq-eqb _ 10 c.if-number-ne10.false, le-leb _ _ c.if-blocks-i.true, c.put_fault-said.ensures)
-
-pub returns : goal.returns
-unfolding told
-returns c = rw (eq-eqb _ 10 c.if-number-ne10.false, lt-leb _ _ c.if-blocks-i.false, c.put_fault-said.ensures, ← c.block_at-first.ensures.0, ← c.block_at-block.ensures.0) c.put_reasons.ensures
+pub returns-then-i-whole : goal.returns-then-i-whole
+returns-then-i-whole c =
+    let s = c.args.blocks.now in
+    told_turn s c.args.label.now c.args.i c.args.line.now (search rules) (omega arith) (block_there s 0 _ [] c.as_chunks.ensures.front (omega arith)) (block_there s c.args.i _ [] c.as_chunks.ensures.front (omega arith)) (ap (λ t. c.args.line.now puts t) (sym c.fault.ensures) ∙ c.put.ensures) c.put_reasons.ensures

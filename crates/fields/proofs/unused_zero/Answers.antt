@@ -1,30 +1,16 @@
-use Prim.Native.Nat.{◌<◌}
-use Prim.Native.Nat.{◌≤◌}
-use mathlib.Core.Path.{◌∙◌}
-use native.Mathlib.Omega.{arith}
-use lib.ListN.{length}
+-- `unused_zero` is the definition's test: each bit from the count-th on. Assumes nothing.
+use Rattle.std.proofs.Common.{rules, tests, refl, ◌∙◌, ◌*◌, ◌-◌, false, length, get_or}
+use mathlib.Core.Bool.{not}
+use Rattle.std.proofs.lemmas.Iterator.{YieldsList-from_range}
+use Rattle.std.proofs.lemmas.Iterator.Search.{all_from_yields_List}
 use Rattle.paper.specs.Bits.{bits}
 use Rattle.bits.proofs.OneBit.{bits_length}
-use Rattle.fields.proofs.Bytewise.{unused_more, unused_set, unused_end}
+use Rattle.fields.proofs.Bytewise.{unused_all}
 use Rattle.fields.proofs.unused_zero.Goals as goal
-
-pub returns-then-bit_at : goal.returns-then-bit_at
-returns-then-bit_at c =
-    let l = bits c.args.payload.now in
-    let at = c.loop-at.at in
-    let inside : at < length l = rw bits_length (omega arith) in
-    rw (c.loop-at.invariant.1, unused_set l at c.bit_at.result inside c.bit_at.ensures c.if-bit_at.true)
-
-pub loop-at-preserved : goal.loop-at-preserved
-loop-at-preserved c =
-    let l = bits c.args.payload.now in
-    let at = c.loop-at.at in
-    let inside : at < length l = rw bits_length (omega arith) in
-    (c.loop-at.invariant.0, c.loop-at.invariant.1 ∙ unused_more l at c.bit_at.result inside c.bit_at.ensures c.if-bit_at.false)
 
 pub returns : goal.returns
 returns c =
     let l = bits c.args.payload.now in
-    let at = c.loop-at.at in
-    let past : length l ≤ at = rw bits_length (omega arith) in
-    rw (c.loop-at.invariant.1, unused_end l at past)
+    let end = 8 * length c.args.payload.now in
+    all_from_yields_List (λ at. not (get_or l at false)) _ _ _ c.all.ensures.ran (YieldsList-from_range c.args.count end (end - c.args.count) (cc) refl) (λ x b q k. search (rules, tests))
+    ∙ unused_all (end - c.args.count) l c.args.count (rw bits_length)

@@ -4,12 +4,6 @@ use Rattle.paper.specs.Line.{even_of}
 use Rattle.lift.proofs.Steps.{quarter_fits}
 use Rattle.lift.proofs.even_of.Goals as goal
 
-pub overflow_add-result : goal.overflow_add-result
-overflow_add-result c = let h = quarter_fits c.requires.within c.requires.within_2 c.requires.within_3 in search rules
-
-pub overflow_add-result-2 : goal.overflow_add-result-2
-overflow_add-result-2 c = let h = quarter_fits c.requires.within c.requires.within_2 c.requires.within_3 in search rules
-
 pub overflow_sub-result : goal.overflow_sub-result
 overflow_sub-result c = let h = quarter_fits c.requires.within c.requires.within_2 c.requires.within_3 in search rules
 

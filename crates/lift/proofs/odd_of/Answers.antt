@@ -4,12 +4,6 @@ use Rattle.paper.specs.Line.{odd_of}
 use Rattle.lift.proofs.Steps.{half_fits}
 use Rattle.lift.proofs.odd_of.Goals as goal
 
-pub overflow_add-result : goal.overflow_add-result
-overflow_add-result c = let h = half_fits c.requires.within c.requires.within_2 c.requires.within_3 in search rules
-
-pub overflow_add-result-2 : goal.overflow_add-result-2
-overflow_add-result-2 c = let h = half_fits c.requires.within c.requires.within_2 c.requires.within_3 in search rules
-
 pub returns : goal.returns
 unfolding odd_of
 returns c = let h = half_fits c.requires.within c.requires.within_2 c.requires.within_3 in search rules

@@ -1,9 +1,9 @@
 -- `line::back` meets its contract. After i turns the first i pairs stand by turns, and `left` is the even sample of the
 -- next, or of the last.
-use mathlib.Core.Path.{◌≡◌, refl, ap, ◌∙◌}
+use mathlib.Core.Path.{◌≡◌, ap, ◌∙◌}
 use Prim.Native.Nat.{◌-◌, ◌+◌, ◌*◌, ◌/◌, min}
 use native.Mathlib.Omega.{arith}
-use lib.ListN.{length, length-set}
+use lib.ListN.{length}
 use mir.Syntax.{w32}
 use mir.Facts.{to_z-of_z}
 use Rattle.integer_laws.specs.Machine.{read, pass}
@@ -12,28 +12,19 @@ use Rattle.line.proofs.Lines.{back_is, even_at_within}
 use Rattle.line.proofs.Pairs.{paired_none, paired_more, free_turns}
 use Rattle.line.proofs.back.Goals as goal
 
-pub even_at-left-requires : goal.even_at-left-requires
-even_at-left-requires c = record { each = c.requires.each; y_len = omega arith; i_lt_h = omega arith }
-
 pub loop-i-init : goal.loop-i-init
 loop-i-init c =
     let y = c.args.y.now in
     let h = length y / 2 in
     let q : min 0 (h - 1) ≡ 0 = omega arith in
-    (omega arith, refl, rw q (to_z-of_z {w = w32} (record { sfits = c.even_at-left.type_inv }) ∙ c.even_at-left.ensures), paired_none _ _ _ _ _)
-
-pub even_at-right-requires : goal.even_at-right-requires
-even_at-right-requires c = record { each = c.requires.each; y_len = omega arith; i_lt_h = omega arith }
+    record { next = rw q (to_z-of_z {w = w32} (record { sfits = c.even_at-left.type_inv }) ∙ c.even_at-left.ensures); pairs = paired_none _ _ _ _ _ }
 
 pub odd_of-requires : goal.odd_of-requires
 odd_of-requires c =
     let y = c.args.y.now in
     let h = length y / 2 in
     let i = c.loop-i.i in
-    record { within = pass (c.requires.each (h + i)) tt tt; within_2 = rw c.loop-i.invariant.2 (even_at_within y h (min i (h - 1)) c.requires.each); within_3 = rw c.even_at-right.ensures (pass (even_at_within y h _ c.requires.each) tt tt) }
-
-pub bounds-out-i-in-loop-i : goal.bounds-out-i-in-loop-i
-bounds-out-i-in-loop-i c = simp length-set (omega arith)
+    record { within = pass (c.requires.each (h + i)) tt tt; within_2 = rw c.loop-i.invariant.next (even_at_within y h (min i (h - 1)) c.requires.each); within_3 = rw c.even_at-right.ensures (pass (even_at_within y h _ c.requires.each) tt tt) }
 
 pub loop-i-preserved : goal.loop-i-preserved
 unfolding odd_at
@@ -43,20 +34,16 @@ loop-i-preserved c =
     let y = c.args.y.now in
     let h = length y / 2 in
     let i = c.loop-i.i in
-    let q : min i (h - 1) ≡ i = omega arith in (
-      omega arith,
-      simp length-set c.loop-i.invariant.1,
-      to_z-of_z {w = w32} (record { sfits = r.type_inv }) ∙ r.ensures ∙ ap (even_at y h) a.ensures,
-      paired_more (λ i. 2 * i) (λ i. 2 * i + 1) (even_at y h) (odd_at y h) i c.loop-i.out _ _ (free_turns h i _ (omega arith) (omega arith)) c.loop-i.invariant.3
-          (c.loop-i.invariant.2 ∙ ap (even_at y h) q)
-          (to_z-of_z {w = w32} (record { sfits = c.odd_of.type_inv }) ∙ c.odd_of.ensures ∙ simp (c.loop-i.invariant.2, q, r.ensures, a.ensures, read (c.requires.each (h + i)) tt, read (even_at_within y h (min (i + 1) (h - 1)) c.requires.each) tt)),
-    )
-
-pub shape_of-out : goal.shape_of-out
-shape_of-out c = c.loop-i.invariant.1
+    let q : min i (h - 1) ≡ i = omega arith in
+    record {
+      next = to_z-of_z {w = w32} (record { sfits = r.type_inv }) ∙ r.ensures ∙ ap (even_at y h) a.ensures;
+      pairs = paired_more (λ i. 2 * i) (λ i. 2 * i + 1) (even_at y h) (odd_at y h) i c.loop-i.out _ _ (free_turns h i _ (omega arith) (omega arith)) c.loop-i.invariant.pairs
+          (c.loop-i.invariant.next ∙ ap (even_at y h) q)
+          (to_z-of_z {w = w32} (record { sfits = c.odd_of.type_inv }) ∙ c.odd_of.ensures ∙ simp (c.loop-i.invariant.next, q, r.ensures, a.ensures, read (c.requires.each (h + i)) tt, read (even_at_within y h (min (i + 1) (h - 1)) c.requires.each) tt));
+    }
 
 pub returns : goal.returns
 returns c =
     let y = c.args.y.now in
     let q : c.loop-i.i ≡ length y / 2 = omega arith in
-    back_is y (length y / 2) c.requires.y_len _ (omega arith) (rw q at c.loop-i.invariant.3)
+    back_is y (length y / 2) c.requires.y_len _ (omega arith) (rw q at c.loop-i.invariant.pairs)

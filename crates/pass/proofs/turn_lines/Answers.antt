@@ -1,33 +1,37 @@
 -- `pass::turn_lines` meets its contract. After l turns the first l lines are turned.
-use mathlib.Core.Path.{◌≡◌, ◌∙◌}
-use Prim.Native.Nat.{◌<◌, ◌^◌}
+use mathlib.Core.Path.{◌≡◌}
+use Prim.Native.Nat.{◌^◌}
 use native.Mathlib.Omega.{arith}
 use lib.Pow.{pow_pos}
+use Rattle.paper.specs.Square.{line}
+use Rattle.line.specs.Each.{Each, line_limit}
 use Rattle.square_laws.specs.Sizes.{line_each}
 use Rattle.pass.proofs.Passes.{passed_none, passed_line, passed_more, passed_all, last_more}
 use borrow.Author.Rules.{rules}
+use Rattle.pass.specs.Turns.{down}
 use Rattle.pass.proofs.turn_lines.Goals as goal
 
 pub loop-l-init : goal.loop-l-init
-loop-l-init c = (omega arith, c.requires.a_len, c.requires.b_len, passed_none _ _ _ _, λ h. absurd (omega arith))
+loop-l-init g c = record { passed = passed_none _ _ _ _; last = λ h. absurd (omega arith) }
 
-pub turn_line-requires : goal.turn_line-requires
-turn_line-requires c =
+pub turn-requires : goal.turn-requires
+turn-requires g c =
     let a = c.args in
-    let P = c.loop-l.invariant.3 in
-    let b : c.loop-l.l < 2 ^ a.j = omega arith in
-    let e = passed_line _ a.j a.down c.loop-l.l a.xs.now c.loop-l.xs b P in
-    record { j_le_most_size = c.requires.j_le_most_size; j_nonzero = c.requires.j_nonzero; l_bound = b; xs_len = P.size ∙ c.requires.xs_len; each = rw e (line_each a.j a.down a.xs.now c.loop-l.l c.requires.each); a_len = c.loop-l.invariant.1; b_len = c.loop-l.invariant.2 }
+    let l = c.loop-l.l in
+    let P = c.loop-l.invariant.passed in
+    let e : line a.size (down a.lines) c.loop-l.xs l ≡ line a.size (down a.lines) a.xs.now l = passed_line _ a.size (down a.lines) l a.xs.now c.loop-l.xs (omega arith) P in
+    let f : Each line_limit (line a.size (down a.lines) c.loop-l.xs l) = rw e (line_each a.size (down a.lines) a.xs.now l (search rules)) in
+    search rules
 
 pub loop-l-preserved : goal.loop-l-preserved
-loop-l-preserved c =
+loop-l-preserved g c =
     let a = c.args in
-    let P = c.loop-l.invariant.3 in
-    let e = passed_line _ a.j a.down c.loop-l.l a.xs.now c.loop-l.xs (omega arith) P in
-    (omega arith, search rules, search rules, passed_more _ a.j a.down c.loop-l.l a.xs.now c.loop-l.xs _ (omega arith) P c.turn_line.ensures.put, λ h. last_more _ a.j a.down c.loop-l.l a.xs.now c.loop-l.xs _ _ e c.turn_line.ensures.a_after c.turn_line.ensures.b_after)
+    let P = c.loop-l.invariant.passed in
+    let e = passed_line _ a.size (down a.lines) c.loop-l.l a.xs.now c.loop-l.xs (omega arith) P in
+    record { passed = passed_more _ a.size (down a.lines) c.loop-l.l a.xs.now c.loop-l.xs _ (omega arith) P c.turn.ensures.put; last = λ h. last_more _ a.size (down a.lines) c.loop-l.l a.xs.now c.loop-l.xs _ _ e c.turn.ensures.a_after c.turn.ensures.b_after }
 
 pub returns : goal.returns
-returns c =
-    let q : c.loop-l.l ≡ 2 ^ c.args.j = omega arith in
-    let e = c.loop-l.invariant.4 (omega (arith, pow_pos c.args.j)) in
-    record { xs_after = passed_all _ c.args.j c.args.down _ _ c.requires.xs_len (rw q at c.loop-l.invariant.3); a_after = rw q at e.gathered; b_after = rw q at e.turned }
+returns g c =
+    let q : c.loop-l.l ≡ 2 ^ c.args.size = omega arith in
+    let e = c.loop-l.invariant.last (omega (arith, pow_pos c.args.size)) in
+    record { xs_after = passed_all _ c.args.size (down c.args.lines) _ _ (search rules) (rw q at c.loop-l.invariant.passed); a_after = rw q at e.gathered; b_after = rw q at e.turned }

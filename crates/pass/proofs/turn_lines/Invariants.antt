@@ -1,12 +1,10 @@
-use mathlib.Core.Path.{◌≡◌}
-use Prim.Native.Nat.{◌≤◌, ◌<◌, ◌-◌, ◌^◌}
-use lib.ListN.{length}
-use Rattle.pass.specs.Way.{way}
+use Prim.Native.Nat.{◌<◌}
 use Rattle.pass.proofs.Passes.{Passed, Last}
+use Rattle.pass.specs.Turns.{down}
 use Rattle.pass.proofs.turn_lines.Given as goal
 
-abbrev pub invariant-loop-l : goal.invariant-loop-l
-invariant-loop-l l = (l.l ≤ 2 ^ l.fn.j) × (length l.a ≡ 2 ^ l.fn.j) × (length l.b ≡ 2 ^ l.fn.j) × Passed (way l.fn.back) l.fn.j l.fn.down l.l l.initial.xs l.xs × (0 < l.l → Last (way l.fn.back) l.fn.j l.fn.down l.l l.initial.xs l.a l.b)
+abbrev pub ghost-turn : goal.ghost-turn
+ghost-turn g a = g.rule
 
-abbrev pub decreases-loop-l : goal.decreases-loop-l
-decreases-loop-l l = 2 ^ l.fn.j - l.l
+abbrev pub invariant-loop-l : goal.invariant-loop-l
+invariant-loop-l g l = record { passed : Passed g.rule l.fn.size (down l.fn.lines) l.l l.initial.xs l.xs; last : 0 < l.l → Last g.rule l.fn.size (down l.fn.lines) l.l l.initial.xs l.a l.b }

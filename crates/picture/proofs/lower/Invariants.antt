@@ -1,5 +1,5 @@
 use mathlib.Core.Path.{◌≡◌}
-use Prim.Native.Nat.{◌≤◌, ◌-◌, ◌^◌}
+use Prim.Native.Nat.{◌^◌}
 use lib.ListN.{length, get_or}
 use lib.IntN.{pos, ◌-ℤ◌}
 use Rattle.paper.specs.Places.{raster_of}
@@ -7,7 +7,4 @@ use Rattle.list_laws.specs.Made.{Filled}
 use Rattle.picture.proofs.lower.Given as goal
 
 abbrev pub invariant-loop-i : goal.invariant-loop-i
-invariant-loop-i l = (l.i ≤ 4 ^ l.fn.k) × (length l.xs ≡ 4 ^ l.fn.k) × Filled (pos 0) (λ z. pos (get_or l.fn.picture (raster_of l.fn.k z) 0) -ℤ pos 128) l.i l.xs
-
-abbrev pub decreases-loop-i : goal.decreases-loop-i
-decreases-loop-i l = 4 ^ l.fn.k - l.i
+invariant-loop-i l = (length l.xs ≡ 4 ^ l.fn.size) × Filled (pos 0) (λ z. pos (get_or l.fn.picture (raster_of l.fn.size z) 0) -ℤ pos 128) l.i l.xs

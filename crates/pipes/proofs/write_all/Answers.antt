@@ -7,10 +7,10 @@ use Rattle.pipes.proofs.write_all.Goals as goal
 pub loop-done-preserved : goal.loop-done-preserved
 loop-done-preserved g c =
     let done = c.loop-done.done in
-    let n = c.write_some-count.result in
+    let n = c.in_ok-count.count in
     let xs = c.args.bytes.now in
     let before = c.loop-done.invariant in
     let most = length-take (length xs - done) (drop done xs) in
-    let fits = c.write_some-count.ensures.bound in
+    let fits = c.in_ok-count.ensures.bound in
     let joined = ap (λ l. take done xs ++ l) (take-take n (length xs - done) (drop done xs) (omega arith)) ∙ sym (take-add done n xs) in
-    (omega arith, subst (Appends _ _) joined (Appends-trans _ _ _ _ _ before.1 c.write_some-count.ensures.bytes))
+    (omega arith, subst (Appends _ _) joined (Appends-trans _ _ _ _ _ before.1 c.in_ok-count.ensures.bytes))

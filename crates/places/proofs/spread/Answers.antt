@@ -1,15 +1,12 @@
 -- `places::spread` meets its contract: its steps, whatever their masks, tried on each of ten bits in either half of a word.
-use Prim.Native.Nat.{ℕ, ◌+◌, ◌*◌, ◌%◌, ◌^◌, ◌<◌, ◌≤◌}
+use Prim.Native.Nat.{ℕ, ◌+◌, ◌*◌, ◌%◌, ◌^◌, ◌≤◌}
 use mathlib.Core.Path.{◌≡◌}
 use mathlib.Core.List.{List, [], ◌∷◌}
 use native.Mathlib.Omega.{arith}
 use lib.Dec.{T, lit≤}
-use lib.Pow.{pow_pos}
-use Rattle.paper.specs.Sizes.{most_size}
 use Rattle.paper.specs.Places.{interleaved}
 use Rattle.places.proofs.Unions.{left, step, steps, keeps_left, keeps_steps}
 use Rattle.places.proofs.Moved.{every, sends, moves, spread_moved}
-use Rattle.places.proofs.Steps.{side_small, half_fits, halves_fit}
 use Rattle.places.proofs.spread.Goals as goal
 
 abbrev four : (a b c d : ℕ) → List (ℕ × ℕ)
@@ -21,23 +18,6 @@ spreads : (a b c d k x y : ℕ) → k ≤ 10 → T (sends 1 2 0 (steps left (fou
 spreads a b c d k x y h low high =
     rw (spread_moved k x, spread_moved k y) (moves 0 1 32 10 k (steps left (four a b c d)) (keeps_steps left keeps_left (four a b c d)) (lit≤ tt) (lit≤ tt) low high h x y)
 
-bounds : (c : goal.After-side-s) → (0 < c.side-s.result) × (c.side-s.result ≤ 4 ^ most_size)
-bounds c =
-    let k = c.args.k in
-    rw c.side-s.ensures (pow_pos k, omega (arith, side_small k c.requires))
-
-pub nonzero_rem-w : goal.nonzero_rem-w
-nonzero_rem-w c = (bounds c).0
-
-pub nonzero_rem-w-2 : goal.nonzero_rem-w-2
-nonzero_rem-w-2 c = (bounds c).0
-
-pub overflow_mul-w : goal.overflow_mul-w
-overflow_mul-w c = record { fits = half_fits _ _ (bounds c).0 (bounds c).1 }
-
-pub overflow_add-w : goal.overflow_add-w
-overflow_add-w c = record { fits = halves_fit _ _ _ (bounds c).0 (bounds c).1 }
-
-pub returns : goal.returns
+pub returns-clause-value : goal.returns-clause-value
 unfolding every sends
-returns c = rw c.side-s.ensures (spreads _ _ _ _ c.args.k c.args.c c.args.r (omega arith) tt tt)
+returns-clause-value c = rw c.side-s.ensures.value (spreads _ _ _ _ c.args.size c.args.c c.args.r (omega arith) tt tt)

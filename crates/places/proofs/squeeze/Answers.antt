@@ -12,7 +12,7 @@ use Rattle.paper.specs.Places.{column_of, row_of}
 use Rattle.places.proofs.Unions.{right, step, steps, keeps_right, keeps_mask, keeps_steps, keeps_then}
 use Rattle.places.proofs.Moved.{every, sends, moves, column_moved, row_moved}
 use Rattle.places.proofs.Interleaving.{square}
-use Rattle.places.proofs.Steps.{area_small, half_fits, halves_fit}
+use Rattle.places.proofs.Steps.{area_small}
 use Rattle.places.proofs.squeeze.Goals as goal
 
 abbrev four : (a b c d : ℕ) → List (ℕ × ℕ)
@@ -27,29 +27,17 @@ squeezes : (m a b c d k z : ℕ) → k ≤ 10 → T (sends 2 1 0 (masked m a b c
 squeezes m a b c d k z h low high =
     rw (column_moved k z, row_moved k z) (moves 1 0 32 10 k (masked m a b c d) (keeps_then (λ w. bit_and w m) (steps right (four a b c d)) (keeps_mask m) (keeps_steps right keeps_right (four a b c d))) (lit≤ tt) (lit≤ tt) low high h z (z / 2))
 
-area : (c : goal.After-side-s) → c.side-s.result * c.side-s.result ≡ 4 ^ c.args.k
-area c = rw c.side-s.ensures (square c.args.k)
+area : (c : goal.After-side-s) → c.side-s.result * c.side-s.result ≡ 4 ^ c.args.size
+area c = rw c.side-s.ensures.value (square c.args.size)
 
 bounds : (c : goal.After-side-s) → (0 < c.side-s.result * c.side-s.result) × (c.side-s.result * c.side-s.result ≤ 4 ^ most_size)
 bounds c =
-    let k = c.args.k in
-    rw (area c) (one-le-pow k 4 (lit< tt), area_small k c.requires)
-
-pub overflow_mul-area : goal.overflow_mul-area
-overflow_mul-area c = omega (arith, bounds c)
-
-pub nonzero_rem-w : goal.nonzero_rem-w
-nonzero_rem-w c = (bounds c).0
-
-pub nonzero_rem-w-2 : goal.nonzero_rem-w-2
-nonzero_rem-w-2 c = (bounds c).0
-
-pub overflow_mul-w : goal.overflow_mul-w
-overflow_mul-w c = record { fits = half_fits _ _ (bounds c).0 (bounds c).1 }
+    let k = c.args.size in
+    rw (area c) (one-le-pow k 4 (lit< tt), area_small k c.side-s.ensures.most)
 
 pub overflow_add-w : goal.overflow_add-w
-overflow_add-w c = record { fits = halves_fit _ _ _ (bounds c).0 (bounds c).1 }
+overflow_add-w c = omega (arith, bounds c)
 
-pub returns : goal.returns
+pub returns-clause-value : goal.returns-clause-value
 unfolding every sends
-returns c = rw (area c) (squeezes _ _ _ _ _ c.args.k c.args.z (omega arith) tt tt)
+returns-clause-value c = rw (area c) (squeezes _ _ _ _ _ c.args.size c.args.z (omega arith) tt tt)

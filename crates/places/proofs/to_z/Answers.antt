@@ -2,19 +2,15 @@
 use Prim.Native.Nat.{◌+◌, ◌*◌, ◌/◌, ◌^◌}
 use mathlib.Core.Path.{◌≡◌, refl, ◌∙◌}
 use native.Mathlib.Omega.{arith}
-use lib.Pow.{pow_pos}
 use Rattle.paper.specs.Places.{interleaved}
 use Rattle.places.proofs.Moved.{apart_raster}
 use Rattle.places.proofs.Interleaving.{interleaved_below}
 use Rattle.places.proofs.Steps.{area_small}
 use Rattle.places.proofs.to_z.Goals as goal
 
-pub nonzero_div-p : goal.nonzero_div-p
-nonzero_div-p c = omega (arith, pow_pos c.args.k)
-
 pub returns : goal.returns
 returns c =
-    let k = c.args.k in
+    let k = c.args.size in
     let p = c.args.place.0 in
-    let w : c.spread-w.result ≡ interleaved k 0 p + interleaved k 0 (p / 2 ^ k) * 2 ^ 32 = c.spread-w.ensures ∙ rw c.side.ensures refl in
-    omega (arith, w, apart_raster k p, interleaved_below k 0 p, area_small k c.requires)
+    let w : c.spread-w.result ≡ interleaved k 0 p + interleaved k 0 (p / 2 ^ k) * 2 ^ 32 = c.spread-w.ensures.value ∙ rw c.side.ensures.value refl in
+    omega (arith, w, apart_raster k p, interleaved_below k 0 p, area_small k c.side.ensures.most)

@@ -1,7 +1,7 @@
 -- `copy_kept`: the full blocks, then the used bytes of the last.
 use Prim.Native.Nat.{ℕ, suc, ◌+◌, ◌*◌, ◌-◌, ◌<◌, ◌≤◌}
 use mathlib.Core.Path.{◌≡◌, sym, ap, ◌∙◌}
-use mathlib.Core.List.{List}
+use mathlib.Core.List.{List, []}
 use native.Mathlib.Nat.{mul-suc}
 use native.Mathlib.Omega.{arith}
 use Rattle.paper.specs.Lists.{over}
@@ -9,7 +9,7 @@ use Rattle.paper.specs.Block.{header_bytes, checks_start, payload_bytes, payload
 use Rattle.paper.specs.Record.{start_in, bits_kept, payload_kept}
 use Rattle.block.proofs.Editions.{start_least, start_most}
 use Rattle.reader.proofs.Payload.{place_small, payload_last}
-use Rattle.reader.proofs.Turn.{bits_low}
+use Rattle.reader.proofs.Turn.{block_there, bits_low}
 use Rattle.reader.proofs.copy_kept.Goals as goal
 
 -- where the payload starts, and the last block's place among bits and bytes
@@ -35,17 +35,11 @@ place start kept bits s some there value bound =
       within = omega (arith, mul-suc (payload_bytes start) last, ap (λ (t : ℕ). payload_bytes start * t) e, place_small start low kept);
     }
 
-pub overflow_sub-used : goal.overflow_sub-used
-overflow_sub-used c = omega (arith, (place c.start_in-start.result c.args.kept c.args.bits c.args.blocks.now c.requires.kept_nonzero c.start_in-start.ensures c.requires.bits_value c.requires.bits_bound).high)
+pub overflow_sub-start : goal.overflow_sub-start
+overflow_sub-start c = omega (arith, (place c.start_in-start.result c.args.kept c.args.bits c.args.blocks.now c.requires.kept_nonzero c.start_in-start.ensures c.requires.bits_value c.requires.bits_bound).high)
 
-pub overflow_mul-used-2 : goal.overflow_mul-used-2
-overflow_mul-used-2 c = omega (arith, (place c.start_in-start.result c.args.kept c.args.bits c.args.blocks.now c.requires.kept_nonzero c.start_in-start.ensures c.requires.bits_value c.requires.bits_bound).before)
-
-pub overflow_sub-used-2 : goal.overflow_sub-used-2
-overflow_sub-used-2 c = omega (arith, (place c.start_in-start.result c.args.kept c.args.bits c.args.blocks.now c.requires.kept_nonzero c.start_in-start.ensures c.requires.bits_value c.requires.bits_bound).before)
-
-pub overflow_add-used : goal.overflow_add-used
-overflow_add-used c = let p = place c.start_in-start.result c.args.kept c.args.bits c.args.blocks.now c.requires.kept_nonzero c.start_in-start.ensures c.requires.bits_value c.requires.bits_bound in omega (arith, p.before, p.behind, p.low)
+pub overflow_sub-bits : goal.overflow_sub-bits
+overflow_sub-bits c = omega (arith, (place c.start_in-start.result c.args.kept c.args.bits c.args.blocks.now c.requires.kept_nonzero c.start_in-start.ensures c.requires.bits_value c.requires.bits_bound).before)
 
 pub copy_full-requires : goal.copy_full-requires
 copy_full-requires c =
@@ -55,7 +49,7 @@ copy_full-requires c =
 pub put_payload-requires : goal.put_payload-requires
 put_payload-requires c =
     let p = place c.start_in-start.result c.args.kept c.args.bits c.args.blocks.now c.requires.kept_nonzero c.start_in-start.ensures c.requires.bits_value c.requires.bits_bound in
-    record { start_le_checks_start = p.high; block_bytes_in_bounds = omega arith; n_in_bounds = omega (arith, p.before, p.behind, p.within, c.requires.blocks_in_bounds); n_bound = omega (arith, p.before, p.behind) }
+    record { start_le_checks_start = p.high; n_in_bounds = omega (arith, p.before, p.behind, p.within, c.requires.blocks_in_bounds); n_bound = omega (arith, p.before, p.behind) }
 
 pub returns : goal.returns
 returns c =
@@ -66,5 +60,5 @@ returns c =
     let e : args.kept ≡ suc last = omega arith in
     let all = c.requires.bits_value ∙ (λ t. bits_kept (sym c.start_in-start.ensures t) s (e t)) in
     c.put_payload.ensures
-    ∙ payload_last start s args.room.now last args.bits (omega arith) all (omega (arith, (place c.start_in-start.result c.args.kept c.args.bits c.args.blocks.now c.requires.kept_nonzero c.start_in-start.ensures c.requires.bits_value c.requires.bits_bound).behind, mul-suc (payload_bits start) last)) c.copy_full.new.room c.copy_full.ensures
+    ∙ payload_last start s args.room.now last args.bits c.div_ceil-used.result (omega arith) all (omega (arith, (place c.start_in-start.result c.args.kept c.args.bits c.args.blocks.now c.requires.kept_nonzero c.start_in-start.ensures c.requires.bits_value c.requires.bits_bound).behind, mul-suc (payload_bits start) last)) (omega (arith, c.div_ceil-used.ensures)) c.copy_full.new.room _ (block_there s last _ [] c.as_chunks.ensures.front (omega arith)) c.copy_full.ensures
     ∙ (λ t. over (payload_kept (c.start_in-start.ensures t) s (sym e t)) args.room.now)

@@ -1,57 +1,53 @@
 -- `read` is the reading job: refused by rows 6 and 7 or by block 0, or done by what the run keeps.
-use Rattle.record.proofs.Reading.{lent_rows, lent_refused, lent_holds, read_refused_lem, kept_usable, none_kept_refused, read_done}
 use Prim.Native.Nat.{ℕ}
+use mathlib.Core.Path.{◌≡◌, sym, ◌∙◌}
 use mathlib.Core.List.{List}
-use lib.ListN.{length}
 use native.Mathlib.Omega.{arith}
-use mathlib.Core.Path.{◌≡◌, refl, sym, ◌∙◌}
-use Rattle.record.proofs.RefusalRows.{rows_judged}
+use lib.ListN.{length}
+use Rattle.std.proofs.lemmas.Result.{err_from_is_err_and}
+use Rattle.refusals.proofs.Numbers.{numbered}
+use Rattle.reader.specs.Answers.{ended_of}
+use Rattle.record.proofs.Reading.{lent_judged, lent_rows, lent_refused, lent_passed, lent_holds, read_refused_lem, kept_usable, read_done}
 use Rattle.record.proofs.read.Goals as goal
 
-pub returns-then-lent-gt0 : goal.returns-then-lent-gt0
-returns-then-lent-gt0 c =
-    let args = c.args in
-    let judged = rows_judged c.rows-lent.ensures c.holds.ensures c.is_label.ensures refl in
-    read_refused_lem args.blocks.now args.label.now args.room.now c.rows-lent.result (lent_refused args.blocks.now args.label.now args.room.now judged (omega arith)) (omega arith) ∙ c.refused.ensures args.room.now
+pub returns-in_err-judge_lent : goal.returns-in_err-judge_lent
+returns-in_err-judge_lent c =
+    let a = c.args in
+    let p = err_from_is_err_and c.from_residual.result c.from_residual.ensures.1 in
+    let some = numbered c.in_err-judge_lent.field-0.0 in
+    rw (p.1, p.2) (read_refused_lem a.blocks.now a.label.now a.room.now _ (lent_refused a.blocks.now a.label.now a.room.now (lent_judged a.blocks.now a.label.now a.room.now c.holds.ensures c.in_err-judge_lent.ensures) some) some)
 
 -- rows 6 and 7 do not apply
 abbrev Passed : List ℕ → List ℕ → List ℕ → Type 0
 Passed blocks label room = lent_rows (length blocks) label (length room) ≡ 0
 
-pub returns-then-run-eq0 : goal.returns-then-run-eq0
-returns-then-run-eq0 c =
-    let args = c.args in
-    let passed : Passed args.blocks.now args.label.now args.room.now = sym (rows_judged c.rows-lent.ensures c.holds.ensures c.is_label.ensures refl) ∙ omega arith in
-    let run = c.longest_run-run in
-    let none = none_kept_refused args.blocks.now args.label.now args.room.now run.result.kept run.result.ended run.ensures passed (omega arith) in
-    read_refused_lem args.blocks.now args.label.now args.room.now run.result.ended none.0 none.1 ∙ c.refused-then-run-eq0.ensures args.room.now
+pub returns-in_err-run : goal.returns-in_err-run
+returns-in_err-run c =
+    let a = c.args in
+    let passed : Passed a.blocks.now a.label.now a.room.now = sym (lent_judged a.blocks.now a.label.now a.room.now c.holds.ensures c.in_ok-judge_lent.ensures) in
+    let p = err_from_is_err_and c.from_residual-in_err-run.result c.from_residual-in_err-run.ensures.1 in
+    rw (p.1, p.2) (read_refused_lem a.blocks.now a.label.now a.room.now _ (lent_passed a.blocks.now a.label.now a.room.now passed ∙ sym c.in_err-run.ensures.refused) (numbered c.in_err-run.field-0.0))
 
 pub bits_kept-bits-requires : goal.bits_kept-bits-requires
 bits_kept-bits-requires c =
-    let args = c.args in
-    let ok = kept_usable args.blocks.now args.label.now args.room.now c.longest_run-run.result.kept c.longest_run-run.result.ended c.longest_run-run.ensures (λ i. (c.type_inv.blocks i).fits) in
-    record { kept_nonzero = omega arith; kept_le_numbered_blocks = ok.few; kept_bound = ok.whole }
+    let a = c.args in
+    let run = c.in_ok-run.ensures.kept in
+    let ok = kept_usable a.blocks.now a.label.now c.in_ok-run.run'.kept (ended_of c.in_ok-run.run'.ended) run.1 (λ i. (c.type_inv.blocks i).fits) in
+    record { kept_nonzero = run.0; kept_le_numbered_blocks = ok.few; kept_bound = ok.whole }
 
 pub copy_kept-requires : goal.copy_kept-requires
 copy_kept-requires c =
-    let args = c.args in
-    let passed : Passed args.blocks.now args.label.now args.room.now = sym (rows_judged c.rows-lent.ensures c.holds.ensures c.is_label.ensures refl) ∙ omega arith in
-    let ok = kept_usable args.blocks.now args.label.now args.room.now c.longest_run-run.result.kept c.longest_run-run.result.ended c.longest_run-run.ensures (λ i. (c.type_inv.blocks i).fits) in
+    let a = c.args in
+    let passed : Passed a.blocks.now a.label.now a.room.now = sym (lent_judged a.blocks.now a.label.now a.room.now c.holds.ensures c.in_ok-judge_lent.ensures) in
+    let run = c.in_ok-run.ensures.kept in
+    let ok = kept_usable a.blocks.now a.label.now c.in_ok-run.run'.kept (ended_of c.in_ok-run.run'.ended) run.1 (λ i. (c.type_inv.blocks i).fits) in
     let bits = c.bits_kept-bits.ensures in
-    record { kept_nonzero = omega arith; kept_bound = ok.whole; blocks_in_bounds = (lent_holds args.blocks.now args.label.now args.room.now passed).1; bits_value = bits; bits_bound = omega (arith, ok.most, bits); kept_le_numbered_blocks = ok.few }
-
-pub told-requires : goal.told-requires
-told-requires c =
-    let args = c.args in
-    let passed : Passed args.blocks.now args.label.now args.room.now = sym (rows_judged c.rows-lent.ensures c.holds.ensures c.is_label.ensures refl) ∙ omega arith in
-    omega (arith, (lent_holds args.blocks.now args.label.now args.room.now passed).0)
+    record { kept_nonzero = run.0; kept_bound = ok.whole; blocks_in_bounds = (lent_holds a.blocks.now a.label.now a.room.now passed).1; bits_value = bits; bits_bound = omega (arith, ok.most, bits); kept_le_numbered_blocks = ok.few }
 
 pub returns : goal.returns
 returns c =
-    let args = c.args in
-    let passed : Passed args.blocks.now args.label.now args.room.now = sym (rows_judged c.rows-lent.ensures c.holds.ensures c.is_label.ensures refl) ∙ omega arith in
-    let run = c.longest_run-run in
-    let bits = c.bits_kept-bits in
-    let copied = c.copy_kept in
-    read_done args.blocks.now args.label.now args.room.now run.result.kept run.result.ended run.ensures passed bits.result copied.new.room (omega arith) bits.ensures copied.ensures
-    ∙ c.told.ensures copied.new.room
+    let a = c.args in
+    let passed : Passed a.blocks.now a.label.now a.room.now = sym (lent_judged a.blocks.now a.label.now a.room.now c.holds.ensures c.in_ok-judge_lent.ensures) in
+    let run = c.in_ok-run.ensures.kept in
+    read_done a.blocks.now a.label.now c.in_ok-run.run'.kept (ended_of c.in_ok-run.run'.ended) run.1 a.room.now passed c.bits_kept-bits.result c.copy_kept.new.room run.0 c.bits_kept-bits.ensures c.copy_kept.ensures
+    ∙ c.told.ensures c.copy_kept.new.room

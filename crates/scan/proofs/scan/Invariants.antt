@@ -1,11 +1,8 @@
 use mathlib.Core.Bool.{false}
-use Prim.Native.Nat.{◌≤◌, ◌-◌, ◌*◌}
-use lib.ListN.{length}
+use Prim.Native.Nat.{◌*◌}
+use Rattle.std.specs.Slice.Iter.{iter_rest}
 use Rattle.scan.proofs.Reached.{Passed}
 use Rattle.scan.proofs.scan.Given as goal
 
-abbrev pub invariant-loop-i : goal.invariant-loop-i
-invariant-loop-i l = (l.i ≤ length l.fn.xs) × Passed (2 * l.t) l.fn.xs false l.i × Passed l.t l.fn.xs l.any l.i
-
-abbrev pub decreases-loop-i : goal.decreases-loop-i
-decreases-loop-i l = length l.fn.xs - l.i
+abbrev pub invariant-loop-x : goal.invariant-loop-x
+invariant-loop-x l = Passed (2 * l.t) l.fn.xs false (iter_rest l.rest) × Passed l.t l.fn.xs l.any (iter_rest l.rest)

@@ -1,5 +1,5 @@
 use native.Mathlib.Omega.{arith}
-use Rattle.sizes.proofs.GreyLimit.{grey_exact, grey_many_planes, grey_many_levels, grey_few, grey_under, grey_over}
+use Rattle.sizes.proofs.GreyLimit.{grey_exact, grey_many_planes, grey_many_levels, grey_few, grey_capped}
 use Rattle.sizes.proofs.grey_limit.Goals as goal
 
 pub returns-then-unfinished-eq0 : goal.returns-then-unfinished-eq0
@@ -17,8 +17,5 @@ overflow_sub-limit c = let h = grey_few _ _ c.if-unfinished-ge8.false c.if-level
 pub overflow_mul-limit-2 : goal.overflow_mul-limit-2
 overflow_mul-limit-2 c = let h = grey_few _ _ c.if-unfinished-ge8.false c.if-levels-ge37.false in rw h.power (omega (arith, h.fits))
 
-pub returns-then-limit-lt255 : goal.returns-then-limit-lt255
-returns-then-limit-lt255 c = grey_under _ _ (grey_few _ _ c.if-unfinished-ge8.false c.if-levels-ge37.false) c.if-limit-lt255.true
-
-pub returns-else-limit-lt255 : goal.returns-else-limit-lt255
-returns-else-limit-lt255 c = grey_over _ _ (grey_few _ _ c.if-unfinished-ge8.false c.if-levels-ge37.false) c.if-limit-lt255.false
+pub returns : goal.returns
+returns c = grey_capped _ _ (grey_few _ _ c.if-unfinished-ge8.false c.if-levels-ge37.false) _ c.min.ensures

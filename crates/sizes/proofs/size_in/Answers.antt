@@ -1,9 +1,8 @@
-use mathlib.Core.Path.{sym}
-use Rattle.sizes.proofs.Ranges.{size_short, size_tall}
+use native.Mathlib.Omega.{arith}
+use Rattle.std.proofs.lemmas.Bool.Decides.{nat_tests}
+use Rattle.paper.specs.Sizes.{size_in}
 use Rattle.sizes.proofs.size_in.Goals as goal
 
-pub returns-then-k-lt-LEAST_SIZE : goal.returns-then-k-lt-LEAST_SIZE
-returns-then-k-lt-LEAST_SIZE c = sym (size_short _ c.if-k-lt-LEAST_SIZE.true)
-
 pub returns : goal.returns
-returns c = sym (size_tall _ c.if-k-lt-LEAST_SIZE.false)
+unfolding size_in
+returns c = grind (arith, nat_tests, c.contains.ensures.value)

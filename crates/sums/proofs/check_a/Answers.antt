@@ -1,12 +1,8 @@
--- `check_a` is the definition's sum. The invariant: what was added and what is left to add are the whole. Assumes nothing.
-use Prim.Native.Nat.{ℕ, ◌%◌}
-use mathlib.Core.Path.{ap}
-use native.Mathlib.Omega.{arith}
-use Rattle.sums.proofs.Laws.{plain_more, plain_end}
+-- `check_a` is the definition's sum. Assumes nothing.
+use Rattle.std.proofs.Common.{rules, ap, ◌∙◌, sym, ℕ, ◌%◌, ◌≡◌}
+use Rattle.std.specs.List.{sum_by}
+use Rattle.sums.proofs.Laws.{plain_is_sum}
 use Rattle.sums.proofs.check_a.Goals as goal
 
-pub loop-i-preserved : goal.loop-i-preserved
-loop-i-preserved c = omega (arith, plain_more c.args.s.now c.loop-i.i c.loop-i-test.true)
-
 pub returns : goal.returns
-returns c = ap (λ (n : ℕ). n % 65521) (omega (arith, plain_end c.args.s.now c.loop-i.i (omega arith)))
+returns c = let e : c.sum.result ≡ sum_by (λ v. v) c.args.s.now = search rules in ap (λ (n : ℕ). n % 65521) (e ∙ sym (plain_is_sum c.args.s.now))

@@ -1,30 +1,35 @@
 -- `thumbnail::thumbnail` meets its contract.
-use Rattle.thumbnail.proofs.Refusals.{few, room_fits, accepted, thumbnail_done}
-use Rattle.transform.proofs.Refusals.{job_refused}
-use Rattle.paper.specs.Jobs.{thumbnail_job}
+use mathlib.Core.Path.{sym}
 use lib.Seq.{length-take-le}
 use native.Mathlib.Omega.{arith}
-use mathlib.Core.Path.{sym}
+use Rattle.std.proofs.lemmas.Result.{err_from_is_err_and}
+use Rattle.paper.specs.Jobs.{thumbnail_job}
+use Rattle.refusals.proofs.Numbers.{numbered}
+use Rattle.transform.proofs.Refusals.{job_refused}
+use Rattle.thumbnail.proofs.Refusals.{few, room_fits, accepted, thumbnail_done}
 use Rattle.thumbnail.proofs.thumbnail.Goals as goal
 
-pub returns-then-refusal-gt0 : goal.returns-then-refusal-gt0
+pub returns-in_err-judge : goal.returns-in_err-judge
 unfolding thumbnail_job
-returns-then-refusal-gt0 c = job_refused _ _ _ _ c.refusal-refusal.ensures c.if-refusal-gt0.true
+returns-in_err-judge c = let p = err_from_is_err_and c.from_residual.result c.from_residual.ensures.1 in rw (p.1, p.2) (job_refused _ _ _ _ c.in_err-judge.ensures (numbered _))
 
-pub overflow_sub-j : goal.overflow_sub-j
-overflow_sub-j c = omega (arith, few _ _ _ _ _ _ _ c.refusal-refusal.ensures c.if-refusal-gt0.false)
+pub overflow_sub-k : goal.overflow_sub-k
+overflow_sub-k c = omega (arith, few _ _ _ _ _ _ c.in_ok-judge.ensures)
+
+pub new-shown-requires : goal.new-shown-requires
+new-shown-requires c = (accepted c.args.k c.args.levels c.args.halvings c.args.numbers.now c.args.picture.now c.args.room.now c.in_ok-judge.ensures).0
 
 pub overflow_sub-left : goal.overflow_sub-left
-overflow_sub-left c = (few _ _ _ _ _ _ _ c.refusal-refusal.ensures c.if-refusal-gt0.false).0
+overflow_sub-left c = (few _ _ _ _ _ _ c.in_ok-judge.ensures).0
 
 pub slice_bounds-rebuild-end : goal.slice_bounds-rebuild-end
-slice_bounds-rebuild-end c = sym (length-take-le _ _ (room_fits _ _ _ _ _ _ _ c.refusal-refusal.ensures c.if-refusal-gt0.false))
+slice_bounds-rebuild-end c = sym (length-take-le _ _ (room_fits _ _ _ _ _ _ c.in_ok-judge.ensures))
 
 pub rebuild-requires : goal.rebuild-requires
 rebuild-requires c =
     let a = c.args in
-    let f = accepted a.k a.levels a.halvings a.numbers.now a.picture.now a.room.now _ c.refusal-refusal.ensures c.if-refusal-gt0.false in
-    record { k_le_most_size = f.0; levels_le_most_levels = f.1.0; levels_le_k = f.1.1.0; numbers_len = f.1.1.1.0; numbers_value = f.1.1.1.1.0; picture_len = f.1.1.1.1.1.0; room_len = f.1.1.1.1.1.1 }
+    let f = accepted a.k a.levels a.halvings a.numbers.now a.picture.now a.room.now c.in_ok-judge.ensures in
+    rw c.new-shown.ensures (record { levels_le_most_levels = f.1.0; levels_le_size = f.1.1.0; numbers_len = f.1.1.1.0; numbers_value = f.1.1.1.1.0; picture_len = f.1.1.1.1.1.0; room_len = f.1.1.1.1.1.1 })
 
 pub returns : goal.returns
-returns c = thumbnail_done _ _ _ _ _ _ _ c.refusal-refusal.ensures c.if-refusal-gt0.false _ _ c.rebuild.ensures.picture_after c.rebuild.ensures.room_after
+returns c = thumbnail_done _ _ _ _ _ _ c.in_ok-judge.ensures _ _ (rw c.new-shown.ensures at c.rebuild.ensures.picture_after) (rw c.new-shown.ensures at c.rebuild.ensures.room_after)

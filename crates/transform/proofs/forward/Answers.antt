@@ -1,22 +1,25 @@
 -- `transform::forward` meets its contract.
 use Rattle.paper.specs.Jobs.{forward_job}
+use Rattle.std.proofs.lemmas.Result.{err_from_is_err_and}
+use Rattle.refusals.proofs.Numbers.{numbered}
+use Rattle.sizes.proofs.Ranges.{size_high}
 use Rattle.transform.proofs.Refusals.{job_refused, forward_accepted, forward_done}
 use Rattle.transform.proofs.forward.Goals as goal
 
-pub returns-then-refusal-gt0 : goal.returns-then-refusal-gt0
+pub returns-in_err-judge_forward : goal.returns-in_err-judge_forward
 unfolding forward_job
-returns-then-refusal-gt0 c = job_refused _ _ _ _ c.forward_refusal-refusal.ensures c.if-refusal-gt0.true
+returns-in_err-judge_forward c = let p = err_from_is_err_and c.from_residual.result c.from_residual.ensures.1 in rw (p.1, p.2) (job_refused _ _ _ _ c.in_err-judge_forward.ensures (numbered _))
+
+pub new-requires : goal.new-requires
+new-requires c = size_high _ (forward_accepted c.args.k c.args.levels c.args.picture.now c.args.numbers.now c.in_ok-judge_forward.ensures).0
 
 pub to_numbers-requires : goal.to_numbers-requires
 to_numbers-requires c =
     let a = c.args in
-    let f = forward_accepted a.k a.levels a.picture.now a.numbers.now _ c.forward_refusal-refusal.ensures c.if-refusal-gt0.false in
-    record { k_value = f.0; levels_value = f.1.0; picture_len = f.1.1.0; numbers_len = f.1.1.1 }
-
-pub plane_count-n-requires : goal.plane_count-n-requires
-plane_count-n-requires c = c.to_numbers.ensures.numbers_after_2
+    let f = forward_accepted a.k a.levels a.picture.now a.numbers.now c.in_ok-judge_forward.ensures in
+    rw c.new.ensures (record { levels_value = f.1.0; picture_len = f.1.1.0; numbers_len = f.1.1.1 })
 
 pub returns : goal.returns
 returns c =
     let a = c.args in
-    forward_done a.k a.levels a.picture.now a.numbers.now _ c.forward_refusal-refusal.ensures c.if-refusal-gt0.false _ _ c.to_numbers.ensures.numbers_after c.plane_count-n.ensures
+    forward_done a.k a.levels a.picture.now a.numbers.now c.in_ok-judge_forward.ensures _ _ (rw c.new.ensures at c.to_numbers.ensures.numbers_after) c.plane_count.ensures

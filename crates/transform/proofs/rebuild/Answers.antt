@@ -11,9 +11,9 @@ copy-requires c = c.requires.room_len ∙ sym c.requires.numbers_len
 pub show-requires : goal.show-requires
 show-requires c =
     let e = c.copy.ensures in
-    record { k_le_most_size = c.requires.k_le_most_size; levels_le_k = c.requires.levels_le_k; picture_len = c.requires.picture_len; room_len = ap length e ∙ c.requires.numbers_len; fitting = rw e (numbers_fit c.args.levels c.args.numbers.now c.requires.levels_le_most_levels c.requires.numbers_value) }
+    record { levels_le_size = c.requires.levels_le_size; picture_len = c.requires.picture_len; room_len = ap length e ∙ c.requires.numbers_len; fitting = rw e (numbers_fit c.args.levels c.args.numbers.now c.requires.levels_le_most_levels c.requires.numbers_value) }
 
 pub returns : goal.returns
 returns c =
     let a = c.args in
-    record { picture_after = c.show.ensures.picture_after ∙ ap (λ xs. pictured a.k (greys_of a.k a.levels xs)) c.copy.ensures; room_after = c.show.ensures.room_after ∙ ap (greys_of a.k a.levels) c.copy.ensures }
+    record { picture_after = c.show.ensures.picture_after ∙ ap (λ xs. pictured a.size (greys_of a.size a.levels xs)) c.copy.ensures; room_after = c.show.ensures.room_after ∙ ap (greys_of a.size a.levels) c.copy.ensures }

@@ -7,14 +7,8 @@ use lib.ListN.{length, take, drop, replicate}
 use lib.Seq.{length-take-le}
 use Rattle.paper.specs.Bits.{bits, packed}
 use Rattle.paper.specs.Jobs.{room_bytes}
-use Rattle.writer.proofs.Bytes.{zeros_left, place_small}
+use Rattle.writer.proofs.Bytes.{zeros_left}
 use Rattle.writer.proofs.payload.Goals as goal
-
-pub overflow_mul-size : goal.overflow_mul-size
-overflow_mul-size c = omega (arith, place_small c.args.size c.args.i (omega arith) (omega arith))
-
-pub fill-requires : goal.fill-requires
-fill-requires c = record { b_bound = omega arith; out_bound = omega (arith, place_small c.args.size c.args.i (omega arith) (omega arith)) }
 
 pub returns : goal.returns
 returns c =

@@ -1,2 +1,0 @@
--- The laws of greys.
-pub mod Greys

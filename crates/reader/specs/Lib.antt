@@ -1,0 +1,2 @@
+-- How a run ended, as a number.
+pub mod Answers

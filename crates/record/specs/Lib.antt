@@ -1,0 +1,2 @@
+-- What writing and reading answer, by case.
+pub mod Answers

@@ -1,2 +1,0 @@
--- Laws of the refusal table.
-pub mod Laws

@@ -1,2 +1,0 @@
--- Laws of the title.
-pub mod Laws
