@@ -35,7 +35,10 @@ pub fn number(rt: &impl Env, i: usize, room: &mut [u8]) -> Option<u32> {
 
 // The line of argument i that is no number. It is read again, through the room of its reading, which says whether all of it was
 // read.
-pub fn number_line(rt: &impl Env, i: usize, name: &[u8], room: &mut [u8], line: &mut Line<'_>) {
+pub fn number_line(rt: &impl Env, i: usize, name: &[u8], room: &mut [u8], line: &mut Line<'_>)
+    ensures same_room { line.new.bytes.ghost_name ≡ line.old.bytes.ghost_name }
+    ensures same_length { length line.new.bytes.now ≡ length line.old.bytes.now }
+{
     line.put(b"REFUSED: ");
     line.put(name);
     match rt.arg(i, room) {

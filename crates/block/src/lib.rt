@@ -23,22 +23,20 @@ pub const ROOM: usize = CHECKS - HEADER;
 // The largest mount number.
 const MOST_MOUNT: u32 = 16777215;
 
-// Where a record was made, by its edition: the first says nothing, the second the arm and its mount number.
-#[derive(Clone, Copy)]
-pub enum Origin {
-    First,
-    Second { arm: u8, mount: u32 },
+// Where a record was made: its edition, and the arm and its mount number that later editions than the first name.
+#[derive(Clone, Copy, Debug, PartialEq, Eq)]
+pub struct Origin {
+    pub edition: u8,
+    pub arm: u8,
+    pub mount: u32,
 }
 
 impl Origin {
-    // The edition that says so much.
+    // The edition, as the first byte of a block says it.
     pub fn edition(self) -> u8
         ensures { result ≡ (origin_of self).edition }
     {
-        match self {
-            Origin::First => 1,
-            Origin::Second { .. } => 2,
-        }
+        self.edition
     }
 }
 
@@ -141,14 +139,13 @@ fn with_header(
 }
 
 // Arm and mount behind the header, where the origin names them.
-#[tactic(auto, using(crate::proofs::Copies::no_origin_in))]
 fn with_origin(from: [u8; BLOCK], origin: Origin) -> [u8; BLOCK]
     ensures { result ≡ take header_bytes from ++ (named (origin_of origin) ++ drop (start_of (origin_of origin).edition) from) }
 {
     let mut block = from;
-    if let Origin::Second { arm, mount } = origin {
-        block[HEADER] = arm;
-        block[HEADER + 1..HEADER + 4].copy_from_slice(&three_bytes(mount));
+    if origin.edition != 1 {
+        block[HEADER] = origin.arm;
+        block[HEADER + 1..HEADER + 4].copy_from_slice(&three_bytes(origin.mount));
     }
     block
 }

@@ -1,7 +1,7 @@
 // The job decoding: the refusals, then all S² numbers cleared, and the planes read from the first b bits.
 #![tactic(auto)]
 
-ghost use Rattle.std.specs.Prelude.{◌≡◌, ◌*◌, ◌^◌, ◌<◌, ◌≤◌, length, take};
+ghost use Rattle.std.specs.Prelude.{◌≡◌, ◌*◌, ◌^◌, ◌<◌, ◌≤◌, pos, length, take, replicate};
 ghost use Rattle.paper.specs.Sizes.{most_size, most_planes};
 ghost use Rattle.paper.specs.Bits.{bits};
 ghost use Rattle.paper.specs.Walk.{decode_of};
@@ -48,6 +48,13 @@ pub struct Settled {
     pub place: usize,
 }
 
+// Every number 0, whatever was there.
+fn clear(numbers: &mut [i32])
+    ensures { numbers.new ≡ replicate (length numbers.old) (pos 0) }
+{
+    numbers.fill(0);
+}
+
 // What the first b bits settle, of sizes that are right: the planes unfinished, the bits read and the place. No walk reads more
 // bits than the limit, and with no more than that a number is left to say that a bit was missed.
 fn settle(k: u32, levels: u32, n: u32, numbers: &mut [i32], bytes: &[u8], b: usize) -> Settled
@@ -58,7 +65,7 @@ fn settle(k: u32, levels: u32, n: u32, numbers: &mut [i32], bytes: &[u8], b: usi
     requires b_bound { b ≤ 8 * length bytes.now }
     ensures { decode_of k levels n (take b (bits bytes.now)) ≡ record { numbers = numbers.exit.now; unfinished = result.unfinished; read = result.read; place = result.place } }
 {
-    numbers.fill(0);
+    clear(numbers);
     let first = shapes::first_set(Size::new(k), levels);
     let mut tape = BitTape::new(bytes, b.min(READ_LIMIT));
     let unfinished = plane_decoder::read_planes(numbers, first, n, &mut tape);

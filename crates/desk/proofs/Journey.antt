@@ -146,4 +146,4 @@ pub rebuild_out_of_record : (label s payload : List ℕ) → let read = reading_
     let room = a.1.1.1.1.1.1.1.1.0.now in
     Shown (journey_of wanted label s payload (take area numbers) (take shown picture) (take shown room)) area shown numbers e.1.1.1.1.1.1.0.now picture e.1.1.1.1.1.1.1.0.now settled.unfinished settled.place
 rebuild_out_of_record label s payload κs a r e x settled h k L n bytes b =
-    rebuilding_out_of_record a.0 label s payload _ _ _ _ (sym (λ i. rebuilding_in a.0 (k i) (L i) (n i) (bytes i) (b i) a.1.1.1.1.1.1.0.now a.1.1.1.1.1.1.1.0.now a.1.1.1.1.1.1.1.1.0.now) ∙ (rw h at x)) refl
+    rebuilding_out_of_record a.0 label s payload _ _ _ _ (sym (λ i. rebuilding_in a.0 (k i) (L i) (n i) (bytes i) (b i) a.1.1.1.1.1.1.0.now a.1.1.1.1.1.1.1.0.now a.1.1.1.1.1.1.1.1.0.now) ∙ (rw h at x.0)) refl

@@ -2,3 +2,4 @@
 pub mod Jobs
 pub mod Held
 pub mod Journey
+pub mod Settled

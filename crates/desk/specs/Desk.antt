@@ -5,8 +5,11 @@ use Rattle.paper.specs.Lists.{pick}
 use Rattle.paper.specs.Sizes.{unless, judged}
 use Rattle.paper.specs.Block.{Origin}
 use Rattle.paper.specs.Jobs.{forward_job, coding_job, writing_job, decoding_job, Inverse, inverse_job, display_job, thumbnail_job}
+use Rattle.decoding.specs.declared.Settled.{Settled}
 use Rattle.pgm.specs.declared.Header.{Header}
 use Rattle.square_pgm.specs.Sides.{most_held, side_of}
+use Rattle.desk.specs.declared.Fault.{Fault}
+use Rattle.desk.specs.declared.Fault.TheVariants.{NoHeader, Greys, Sides, Missing}
 use Rattle.desk.specs.declared.Wanted.{Wanted}
 use Rattle.desk.specs.declared.Wanted.TheVariants.{Picture, Softer, Thumbnail}
 
@@ -23,6 +26,16 @@ fault_of (Some header) bytes =
     unless 2 (eqb header.most 255)
     (unless 3 (not (eqb k 0))
     (unless 4 (leb (header.start + area_of k) bytes) 0))
+
+-- that fault with its numbers: of missing greys, how many bytes stand behind the header, if any do, and how many the picture has
+unfoldable pub wrong_with : Option Header → ℕ → Fault
+wrong_with None bytes = NoHeader
+wrong_with (Some header) bytes =
+    let k = side_of header.width header.height in
+    let came = pick (leb header.start bytes) (Some (bytes - header.start)) None in
+    pick (eqb header.most 255)
+    (pick (eqb k 0) (Sides header.width header.height) (Missing came (area_of k)))
+    (Greys header.most)
 
 -- the k of a header's square; 0 where there is none
 abbrev pub size_of : Option Header → ℕ
@@ -95,6 +108,14 @@ rebuilding_of wanted k L n bytes b numbers picture room =
     (λ r. record { refusal = r; unfinished = d.unfinished; read = d.read; place = d.place; numbers = d.numbers; picture = picture; room = room })
     (record { refusal = i.refusal; unfinished = d.unfinished; read = d.read; place = d.place; numbers = d.numbers; picture = i.picture; room = i.room })
 
+-- what the bits settle, where their decoding is not refused
+unfoldable pub settled_of : ℕ → ℕ → ℕ → List ℕ → ℕ → List ℤ → Option Settled
+settled_of k L n bytes b numbers =
+    let d = decoding_job k L n numbers bytes b in
+    judged d.refusal
+    (λ r. None)
+    (Some (record { unfinished = d.unfinished; read = d.read; place = d.place }))
+
 -- ---- the same, with buffers that are as long as the largest picture needs: the front of each is used
 -- the picture at a place of the input; 3 where a buffer is too short
 unfoldable pub encoding_in : ℕ → ℕ → Origin → List ℕ → ℕ → List ℕ → ℕ → List ℤ → List ℕ → List ℕ → Encoding
@@ -122,3 +143,12 @@ rebuilding_in wanted k L n bytes b numbers picture room =
       room = r.room ++ drop shown room;
     })
     (record { refusal = 3; unfinished = 0; read = 0; place = 0; numbers = numbers; picture = picture; room = room })
+
+-- what they settle of the picture's numbers; nothing where a buffer is too short
+unfoldable pub settled_in : Wanted → ℕ → ℕ → ℕ → List ℕ → ℕ → List ℤ → List ℕ → List ℤ → Option Settled
+settled_in wanted k L n bytes b numbers picture room =
+    let area = area_of k in
+    let shown = area_of (k - halvings_of wanted) in
+    pick (leb area (length numbers) && leb shown (length picture) && leb shown (length room))
+    (settled_of k L n bytes b (take area numbers))
+    None

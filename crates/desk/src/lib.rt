@@ -2,10 +2,10 @@
 // made a picture, a softer one or a thumbnail of it. All memory is lent.
 #![tactic(auto)]
 
-ghost use Rattle.std.specs.Prelude.{◌≡◌, ◌-◌, None, IfOk};
+ghost use Rattle.std.specs.Prelude.{◌≡◌, ◌-◌, None, IfOk, IfErr};
 ghost use Rattle.std.specs.Option.{ForSome};
 ghost use Rattle.desk.specs.Answers.{found_answer, encoding_answer, rebuilding_answer};
-ghost use Rattle.desk.specs.Desk.{area_of, found_of, encoding_of, encoding_in, halvings_of, wants_softer, shown_job, rebuilding_of, rebuilding_in};
+ghost use Rattle.desk.specs.Desk.{area_of, found_of, wrong_with, encoding_of, encoding_in, halvings_of, wants_softer, shown_job, rebuilding_of, rebuilding_in, settled_of, settled_in};
 ghost use Rattle.transform.specs.Answers.{inverse_answer};
 
 use decoding::Settled;
@@ -83,10 +83,11 @@ pub fn area(k: u32) -> usize
 }
 
 // The picture of a PGM of so many bytes.
-#[tactic(auto, unfolding(crate::specs::Desk::found_of, crate::specs::Desk::fault_of))]
+#[tactic(auto, unfolding(crate::specs::Desk::found_of, crate::specs::Desk::fault_of, crate::specs::Desk::wrong_with))]
 pub fn find(header: Option<Header>, bytes: usize) -> Result<Found, Fault>
     ensures found { found_answer result ≡ found_of header bytes }
     ensures start { IfOk result (λ found. ForSome header (λ h. found.start ≡ h.start)) }
+    ensures fault { IfErr result (λ fault. fault ≡ wrong_with header bytes) }
 {
     let header = header.ok_or(Fault::NoHeader)?;
     if header.most != 255 {
@@ -218,7 +219,7 @@ fn shown(
 }
 
 // The first b bits made what is wanted.
-#[tactic(auto, unfolding(crate::specs::Desk::rebuilding_of))]
+#[tactic(auto, unfolding(crate::specs::Desk::rebuilding_of, crate::specs::Desk::settled_of))]
 fn rebuilt(
     wanted: Wanted,
     k: u32,
@@ -230,7 +231,8 @@ fn rebuilt(
     picture: &mut [u8],
     room: &mut [i32],
 ) -> Result<Settled, Unshown>
-    ensures { rebuilding_of wanted k levels n bytes.now b numbers.old picture.old room.old ≡ rebuilding_answer result numbers.new picture.new room.new }
+    ensures outcome { rebuilding_of wanted k levels n bytes.now b numbers.old picture.old room.old ≡ rebuilding_answer result numbers.new picture.new room.new }
+    ensures settled { IfErr result (λ unshown. unshown.settled ≡ settled_of k levels n bytes.now b numbers.old) }
 {
     let settled = label::decode(k, levels, n, numbers, bytes, b)?;
     match shown(wanted, k, levels, settled, numbers, picture, room) {
@@ -244,6 +246,7 @@ fn rebuilt(
 
 // The first b bits made what is wanted of a picture of side 2 ^ k, at the front of buffers that may be longer; where one is
 // shorter, that is refused by the length.
+#[tactic(auto, unfolding(crate::specs::Desk::settled_in))]
 pub fn rebuild(
     wanted: Wanted,
     k: u32,
@@ -255,7 +258,8 @@ pub fn rebuild(
     picture: &mut [u8],
     room: &mut [i32],
 ) -> Result<Settled, Unshown>
-    ensures { rebuilding_in wanted k levels n bytes.now b numbers.old picture.old room.old ≡ rebuilding_answer result numbers.new picture.new room.new }
+    ensures outcome { rebuilding_in wanted k levels n bytes.now b numbers.old picture.old room.old ≡ rebuilding_answer result numbers.new picture.new room.new }
+    ensures settled { IfErr result (λ unshown. unshown.settled ≡ settled_in wanted k levels n bytes.now b numbers.old picture.old room.old) }
 {
     let shown = shown_area(wanted, k);
     let area = area(k);

@@ -12,6 +12,7 @@ ghost use Rattle.integer_laws.specs.Order.{Within};
 ghost use Rattle.refusals.specs.Numbers.{refusal_of};
 ghost use Rattle.transform.specs.Answers.{inverse_answer};
 
+use places::ZPlace;
 use refusals::Refusal;
 use sizes::Size;
 
@@ -75,7 +76,8 @@ fn soften(unfinished: u32, place: usize, numbers: &[i32], out: &mut [i32])
     ensures { out.new ≡ softened unfinished place numbers.now }
 {
     for (i, x) in out.iter_mut().enumerate() {
-        *x = moved_up(numbers[i], unread_at(unfinished, place, i));
+        let number = places::at(numbers, places::place::<ZPlace>(i));
+        *x = moved_up(number, unread_at(unfinished, place, i));
     }
 }
 

@@ -5,7 +5,9 @@
 // docs/MEMORY.md has the sum of the buffers.
 #![tactic(auto)]
 
-ghost use Rattle.std.specs.Prelude.{◌≤◌};
+ghost use Rattle.std.specs.Prelude.{◌≡◌, ◌≤◌, IfSome};
+ghost use Rattle.remarks.specs.Said.{refused_of};
+ghost use Rattle.words.specs.Line.{on, stands};
 
 use block::BLOCK;
 use desk::{Fault, MOST_BLOCKS, MOST_GREYS, PAYLOAD_ROOM, RECORD_BYTES};
@@ -102,6 +104,14 @@ fn fault_line(fault: Fault, bytes: usize, line: &mut Line<'_>) {
     }
 }
 
+// What is said of a refusal, from the front of the line's room: its words are all there.
+fn put_remark(number: u32, line: &mut Line<'_>)
+    requires at_front { line.old.at ≡ 0 }
+    ensures { refused_of number (on line.old.bytes.now 0) ≡ stands line.new }
+{
+    remarks::refused(number, line);
+}
+
 fn write_record(rt: &HostRuntime, room: &[u8], blocks: usize, line: &mut Line<'_>) {
     if MOST_BLOCKS < blocks || pipes::write_front(&mut rt.stdout(), room, BLOCK * blocks).is_err() {
         line.put(b"REFUSED: standard output could not be written\n");
@@ -116,7 +126,9 @@ fn encode(
     levels: u32,
     limit: usize,
     line: &mut Line<'_>,
-) {
+)
+    requires at_front { line.old.at ≡ 0 }
+{
     let found = match desk::find(pgm::read_header(input), input.len()) {
         Ok(found) => found,
         Err(fault) => return fault_line(fault, input.len(), line),
@@ -141,7 +153,7 @@ fn encode(
     );
     match made {
         Ok(blocks) => write_record(rt, &room, blocks, line),
-        Err(refusal) => remarks::refused(refusal.number(), line),
+        Err(refusal) => put_remark(refusal.number(), line),
     }
 }
 
@@ -154,7 +166,9 @@ fn read_and_encode(
     levels: u32,
     limit: usize,
     line: &mut Line<'_>,
-) {
+)
+    requires at_front { line.old.at ≡ 0 }
+{
     let mut given = [0u8; 16];
     let label = arguments::word(rt, first, &mut given).unwrap_or(b"");
     match pipes::read_all(&mut rt.stdin(), room) {
@@ -171,7 +185,9 @@ fn number(
     name: &[u8],
     room: &mut [u8],
     line: &mut Line<'_>,
-) -> Option<u32> {
+) -> Option<u32>
+    ensures silent { IfSome result (λ number. line.new.at ≡ line.old.at) }
+{
     let number = arguments::number(rt, i, room);
     if number.is_none() {
         arguments::number_line(rt, i, name, room, line);
@@ -180,7 +196,9 @@ fn number(
 }
 
 // The bit limit, argument i, which is beyond all bits where it is not given.
-fn limit(rt: &HostRuntime, i: usize, room: &mut [u8], line: &mut Line<'_>) -> Option<u32> {
+fn limit(rt: &HostRuntime, i: usize, room: &mut [u8], line: &mut Line<'_>) -> Option<u32>
+    ensures silent { IfSome result (λ limit. line.new.at ≡ line.old.at) }
+{
     if arguments::is_given(rt, i) {
         number(rt, i, b"BITS", room, line)
     } else {
@@ -196,7 +214,8 @@ fn read_operands(
     room: &mut [u8],
     line: &mut Line<'_>,
 )
-    requires { first ≤ 5 }
+    requires within { first ≤ 5 }
+    requires at_front { line.old.at ≡ 0 }
 {
     let Some(levels) = number(rt, first + 1, b"LEVELS", room, line) else {
         return;
@@ -208,14 +227,18 @@ fn read_operands(
 }
 
 // ARM is argument 2, and MOUNT argument 4.
-fn read_origin(rt: &HostRuntime, room: &mut [u8], line: &mut Line<'_>) -> Option<Origin> {
+fn read_origin(rt: &HostRuntime, room: &mut [u8], line: &mut Line<'_>) -> Option<Origin>
+    ensures silent { IfSome result (λ origin. line.new.at ≡ line.old.at) }
+{
     let arm = number(rt, 2, b"ARM", room, line)?;
     let mount = number(rt, 4, b"MOUNT", room, line)?;
     Some(Origin::Second { arm, mount })
 }
 
 // Numbers are read through the room that the picture will have.
-fn read_arguments(rt: &HostRuntime, asked: Asked, line: &mut Line<'_>) {
+fn read_arguments(rt: &HostRuntime, asked: Asked, line: &mut Line<'_>)
+    requires at_front { line.old.at ≡ 0 }
+{
     let mut room = [0u8; INPUT_BYTES];
     match asked {
         Asked::First => read_operands(rt, Origin::First, 1, &mut room, line),
@@ -244,7 +267,9 @@ fn operands_given(rt: &HostRuntime, first: usize) -> bool
         && !arguments::is_given(rt, first + 3)
 }
 
-fn run(rt: &HostRuntime, line: &mut Line<'_>) {
+fn run(rt: &HostRuntime, line: &mut Line<'_>)
+    requires at_front { line.old.at ≡ 0 }
+{
     if is_word(rt, 1, b"--help") {
         write_help(&mut rt.stdout());
     } else if is_word(rt, 1, b"--version") {

@@ -2,6 +2,7 @@
 #![tactic(auto)]
 
 ghost use Rattle.std.specs.Prelude.{◌≡◌, ◌≤◌, length};
+ghost use Rattle.words.specs.Line.{stands};
 ghost use Rattle.faults.specs.Faults.{fault, another, labelled, unlike, elsewhere, shot_elsewhere, reasons, told, ended_of, refused_of};
 
 use block::BLOCK;
@@ -26,7 +27,8 @@ fn fault(number: u32, i: usize) -> &'static [u8]
 // Another number than the one wanted.
 #[tactic(auto, unfolding(crate::specs::Faults::another))]
 fn put_another(its: &[u8], found: u64, wanted: u64, line: &mut Line<'_>)
-    ensures { another its.now found wanted line.old ≡ line.new }
+    ensures same_room { line.new.bytes.ghost_name ≡ line.old.bytes.ghost_name }
+    ensures line_value { another its.now found wanted (stands line.old) ≡ stands line.new }
 {
     if found != wanted {
         line.put_figures(its, found, b" and not ", wanted);
@@ -37,7 +39,8 @@ fn put_another(its: &[u8], found: u64, wanted: u64, line: &mut Line<'_>)
 // Another label than the one expected: the desk may have to look for that cartridge.
 #[tactic(auto, unfolding(crate::specs::Faults::labelled))]
 fn put_labelled(found: &[u8], label: &[u8], line: &mut Line<'_>)
-    ensures { labelled found.now label.now line.old ≡ line.new }
+    ensures same_room { line.new.bytes.ghost_name ≡ line.old.bytes.ghost_name }
+    ensures line_value { labelled found.now label.now (stands line.old) ≡ stands line.new }
 {
     if !fields::same_bytes(found, label) {
         line.put(b"    its label is ");
@@ -51,7 +54,8 @@ fn put_labelled(found: &[u8], label: &[u8], line: &mut Line<'_>)
 // Another side, levels or planes than block 0's.
 #[tactic(auto, unfolding(crate::specs::Faults::unlike))]
 fn put_unlike(form: &[u8], first: &[u8], line: &mut Line<'_>)
-    ensures { unlike form.now first.now line.old ≡ line.new }
+    ensures same_room { line.new.bytes.ghost_name ≡ line.old.bytes.ghost_name }
+    ensures line_value { unlike form.now first.now (stands line.old) ≡ stands line.new }
 {
     if !fields::same_bytes(form, first) {
         line.put(b"    its side, levels or planes are not block 0's\n");
@@ -61,7 +65,8 @@ fn put_unlike(form: &[u8], first: &[u8], line: &mut Line<'_>)
 // Another arm or mount than block 0's: a shot of the same label, and not this one.
 #[tactic(auto, unfolding(crate::specs::Faults::elsewhere))]
 fn put_elsewhere(first: &[u8; BLOCK], block: &[u8; BLOCK], line: &mut Line<'_>)
-    ensures { elsewhere first.now block.now line.old ≡ line.new }
+    ensures same_room { line.new.bytes.ghost_name ≡ line.old.bytes.ghost_name }
+    ensures line_value { elsewhere first.now block.now (stands line.old) ≡ stands line.new }
 {
     let arm = u64::from(reader::arm_of(block));
     let arm_wanted = u64::from(reader::arm_of(first));
@@ -74,7 +79,8 @@ fn put_elsewhere(first: &[u8; BLOCK], block: &[u8; BLOCK], line: &mut Line<'_>)
 // Not told where the editions differ: edition 1 has no arm that a person could look for.
 #[tactic(auto, unfolding(crate::specs::Faults::shot_elsewhere))]
 fn put_shot_elsewhere(first: &[u8; BLOCK], block: &[u8; BLOCK], line: &mut Line<'_>)
-    ensures { shot_elsewhere first.now block.now line.old ≡ line.new }
+    ensures same_room { line.new.bytes.ghost_name ≡ line.old.bytes.ghost_name }
+    ensures line_value { shot_elsewhere first.now block.now (stands line.old) ≡ stands line.new }
 {
     if block[0] == first[0] {
         put_elsewhere(first, block, line);
@@ -90,7 +96,8 @@ fn put_reasons(
     block: &[u8; BLOCK],
     line: &mut Line<'_>,
 )
-    ensures { reasons first.now label.now i block.now line.old ≡ line.new }
+    ensures same_room { line.new.bytes.ghost_name ≡ line.old.bytes.ghost_name }
+    ensures line_value { reasons first.now label.now i block.now (stands line.old) ≡ stands line.new }
 {
     let number = fields::pair_at(block, 12) as u64;
     put_another(b"    its number is ", number, i as u64, line);
@@ -104,7 +111,8 @@ fn put_reasons(
 // What is wrong with block i of the blocks.
 #[tactic(auto, unfolding(crate::specs::Faults::told))]
 fn put_told(number: u32, blocks: &[u8], label: &[u8], i: usize, line: &mut Line<'_>)
-    ensures { told number blocks.now label.now i line.old ≡ line.new }
+    ensures same_room { line.new.bytes.ghost_name ≡ line.old.bytes.ghost_name }
+    ensures line_value { told number blocks.now label.now i (stands line.old) ≡ stands line.new }
 {
     line.put(fault(number, i));
     let (whole, _) = blocks.as_chunks::<BLOCK>();
@@ -116,8 +124,9 @@ fn put_told(number: u32, blocks: &[u8], label: &[u8], i: usize, line: &mut Line<
 // What ended the run, block i, if anything did.
 #[tactic(auto, unfolding(crate::specs::Faults::ended_of))]
 pub fn ended(number: u32, blocks: &[u8], label: &[u8], i: usize, line: &mut Line<'_>)
-    ensures line_value { ended_of number blocks.now label.now i line.old ≡ line.new }
-    ensures upper_bound { line.old.at ≤ length line.old.bytes → line.new.at ≤ length line.new.bytes }
+    ensures same_room { line.new.bytes.ghost_name ≡ line.old.bytes.ghost_name }
+    ensures line_value { ended_of number blocks.now label.now i (stands line.old) ≡ stands line.new }
+    ensures upper_bound { line.old.at ≤ length line.old.bytes.now → line.new.at ≤ length line.new.bytes.now }
 {
     if number != 0 {
         line.put_figure(b"  block ", i as u64);
@@ -129,7 +138,8 @@ pub fn ended(number: u32, blocks: &[u8], label: &[u8], i: usize, line: &mut Line
 // The lines of a record whose block 0 is not kept.
 #[tactic(auto, unfolding(crate::specs::Faults::refused_of))]
 pub fn refused(number: u32, blocks: &[u8], label: &[u8], line: &mut Line<'_>)
-    ensures { refused_of number blocks.now label.now line.old ≡ line.new }
+    ensures same_room { line.new.bytes.ghost_name ≡ line.old.bytes.ghost_name }
+    ensures line_value { refused_of number blocks.now label.now (stands line.old) ≡ stands line.new }
 {
     line.put(b"REFUSED ");
     line.put(label);

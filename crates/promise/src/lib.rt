@@ -2,6 +2,7 @@
 #![tactic(auto)]
 
 ghost use Rattle.std.specs.Prelude.{◌≡◌, ◌≤◌, length};
+ghost use Rattle.words.specs.Line.{stands};
 ghost use Rattle.promise.specs.Promise.{promise_of};
 
 use words::Line;
@@ -11,8 +12,9 @@ use worth::Decoded;
 // largest grey error.
 #[tactic(auto, unfolding(crate::specs::Promise::promise_of, crate::specs::Promise::of255))]
 pub fn promise(label: &[u8], decoded: Decoded, line: &mut Line<'_>)
-    ensures line_value { promise_of label.now decoded.k decoded.levels decoded.halvings decoded.softer decoded.unfinished decoded.blocks line.old ≡ line.new }
-    ensures upper_bound { line.old.at ≤ length line.old.bytes → line.new.at ≤ length line.new.bytes }
+    ensures same_room { line.new.bytes.ghost_name ≡ line.old.bytes.ghost_name }
+    ensures line_value { promise_of label.now decoded.k decoded.levels decoded.halvings decoded.softer decoded.unfinished decoded.blocks (stands line.old) ≡ stands line.new }
+    ensures upper_bound { line.old.at ≤ length line.old.bytes.now → line.new.at ≤ length line.new.bytes.now }
 {
     line.put(label);
     line.put(b" ");

@@ -7,6 +7,10 @@ use native.Mathlib.Omega.{arith}
 use lib.Dec.{leb}
 use lib.ListN.{length}
 use borrow.Author.Tests.{leb-true}
+use Rattle.std.specs.Prelude.{Result, Err}
+use Rattle.refusals.specs.declared.Refusal.{Refusal}
+use Rattle.refusals.specs.Numbers.{number_of, refusal_of}
+use Rattle.refusals.proofs.Numbers.{numbered}
 use Rattle.paper.specs.Sizes.{unless, judged}
 use Rattle.paper.specs.Lists.{Bytes, over}
 use Rattle.paper.specs.Block.{is_label, byte_at, block_bytes, payload_bits, numbered_blocks, edition_of, arm_of, mount_of}
@@ -15,6 +19,7 @@ use Rattle.paper.specs.Jobs.{room_bytes, lent_refusal, reading_refusal, read_ref
 use Rattle.sizes.proofs.Ranges.{both_first, both_second}
 use Rattle.sizes.proofs.Refusals.{row_passed, refused_is, done_is}
 use Rattle.record_laws.specs.Turn.{kept_numbered, kept_within, bits_kept_most, block_0_passes, block_0_refused}
+use Rattle.record.specs.Answers.{reading_answer}
 use Rattle.record.proofs.RefusalRows.{rows_leave, rows_stand}
 
 -- rows 6 and 7, as they are judged from the lengths
@@ -49,6 +54,14 @@ module _ (s label room : List ℕ) where
   pub read_refused_lem : (r : ℕ) → reading_refusal s label room ≡ r → 0 < r → reading_job s label room ≡ read_refused room r
   unfolding reading_job
   read_refused_lem r e h = ap (λ q. judged q (read_refused room) (read_run (edition_of s) s room (run_of s label))) e ∙ refused_is r _ _ h
+
+  -- a refusal by rows 6 and 7 is the job's answer, with the room as it was
+  pub read_unread : {A : Type 0} {answer : Result A Refusal} {refusal : Refusal} {fitting : Bool} → answer ≡ Err refusal
+      → fitting ≡ (leb block_bytes (length s) && leb (room_bytes * (length s / block_bytes)) (length room)) → refusal_of answer ≡ unless 6 fitting (unless 7 (is_label label) 0)
+      → reading_job s label room ≡ reading_answer (Err refusal) room
+  read_unread {A} {answer} {refusal} {fitting} is f e =
+      let some = numbered refusal in
+      read_refused_lem (number_of refusal) (lent_refused (lent_judged f (sym (ap refusal_of is) ∙ e)) some) some
 
 -- the longest run, by its parts
 module _ (s label : List ℕ) (kept ended : ℕ) (run : run_of s label ≡ record { kept = kept; ended = ended }) where

@@ -76,19 +76,24 @@ fn judge_writing(
     judge_origin(edition, arm, mount)
 }
 
-// What every block of the record says of itself; arm and mount are ignored in edition 1.
+// What every block of the record says of itself; arm and mount are ignored in edition 1, and 0.
 fn heading(k: u32, levels: u32, n: u32, edition: u32, arm: u32, mount: u32) -> Heading
     requires k_bound { k ≤ 255 }
     requires levels_bound { levels ≤ 255 }
     requires n_bound { n ≤ 255 }
-    requires edition_value { edition_in edition ≡ true }
+    requires edition_bound { edition ≤ 255 }
     requires mount_value { origin_in (record { edition = edition; arm = arm; mount = mount }) ≡ true }
     ensures { (result.k ≡ k) × (result.levels ≡ levels) × (result.n ≡ n) × (origin_of result.origin ≡ given_back (record { edition = edition; arm = arm; mount = mount })) }
 {
     let origin = if edition == 1 {
-        Origin::First
+        Origin {
+            edition: 1,
+            arm: 0,
+            mount: 0,
+        }
     } else {
-        Origin::Second {
+        Origin {
+            edition: edition as u8,
             arm: arm as u8,
             mount,
         }
@@ -103,6 +108,7 @@ fn heading(k: u32, levels: u32, n: u32, edition: u32, arm: u32, mount: u32) -> H
 
 // The record of the first b bits of `bytes`, in the edition asked for: its blocks at the front of the room, and their count.
 // Edition, arm and mount are numbers and no `Origin`, since `writing_job` takes whatever it is given and refuses what there is not.
+#[tactic(auto, using(crate::proofs::Writing::write_unwritten))]
 pub fn write(
     k: u32,
     levels: u32,
@@ -192,10 +198,12 @@ fn kept_run(blocks: &[u8], label: &[u8]) -> Result<Run, Refusal>
 
 // The longest run of blocks that can be kept: what it says, and its payload at the front of the room. Nothing is
 // written before the run is known.
+#[tactic(auto, using(crate::proofs::Reading::read_unread))]
 pub fn read(blocks: &[u8], label: &[u8], room: &mut [u8]) -> Result<Kept, Refusal>
     ensures { reading_job blocks.now label.now room.old ≡ reading_answer result room.new }
 {
-    judge_lent(holds(blocks.len(), room.len()), label)?;
+    let fitting = holds(blocks.len(), room.len());
+    judge_lent(fitting, label)?;
     let run = kept_run(blocks, label)?;
     let bits = reader::bits_kept(blocks, run.kept);
     reader::copy_kept(room, blocks, run.kept, bits);

@@ -2,7 +2,7 @@
 #![tactic(auto)]
 
 ghost use Rattle.std.specs.Prelude.{◌≡◌};
-ghost use Rattle.words.specs.Line.{◌puts◌};
+ghost use Rattle.words.specs.Line.{stands, ◌puts◌};
 ghost use Rattle.remarks.specs.Said.{meaning, refused_of};
 
 use words::Line;
@@ -30,7 +30,8 @@ fn meaning(number: u32) -> &'static [u8]
 // The line of a refusal.
 #[tactic(auto, unfolding(crate::specs::Said::refused_of))]
 pub fn refused(number: u32, line: &mut Line<'_>)
-    ensures { refused_of number line.old ≡ line.new }
+    ensures same_room { line.new.bytes.ghost_name ≡ line.old.bytes.ghost_name }
+    ensures line_value { refused_of number (stands line.old) ≡ stands line.new }
 {
     line.put(b"REFUSED: ");
     line.put(meaning(number));

@@ -2,7 +2,7 @@
 use mathlib.Core.Path.{◌≡◌, refl, sym, ap, ◌∙◌}
 use mathlib.Core.Bool.{Bool, true, false}
 use mathlib.Core.List.{List, [], ◌++◌}
-use Prim.Native.Nat.{ℕ, ◌+◌, ◌≤◌}
+use Prim.Native.Nat.{ℕ, ◌+◌, ◌*◌, ◌≤◌}
 use native.Mathlib.Omega.{arith}
 use lib.Dec.{ltb}
 use borrow.Author.Tests.{ltb-true}
@@ -16,7 +16,7 @@ use Rattle.bits.specs.Bits.{tape_of}
 use Rattle.bits.proofs.OneBit.{tape_settled}
 use Rattle.shapes.proofs.Walks.{Running}
 use Rattle.set_decoder.specs.declared.tape.BitTape.{BitTape}
-use Rattle.set_decoder.specs.Walked.{tape_at, Walked}
+use Rattle.set_decoder.specs.Walked.{tape_at, Walked, Here, here_of, WalkedAt}
 
 pub done : {A : Type 0} (s : BitTape) (a : A) → Walked (Decoder.done a) s a s
 done s a = record { is = refl; bytes = refl; count = refl }
@@ -71,13 +71,22 @@ inside p xs {s} W e =
     let still = open_still p xs (tape_at s) (ap (λ r. r.0) W.is ∙ e) in
     omega (arith, still, ap (λ r. r.1.place) W.is)
 
--- no second outcome: what the walk answers and where it leaves off are settled
-pub walked_once : {A : Type 0} {f : Decodes A} {s : BitTape} {x y : A} {t u : BitTape} → Walked f s x t → Walked f s y u
-    → (x ≡ y) × (t.source.bytes.now ≡ u.source.bytes.now) × (t.source.count ≡ u.source.count) × (t.source.place ≡ u.source.place) × (t.place ≡ u.place)
+-- ---- no second outcome: what the walk answers and where it leaves off are settled
+-- over plain lists and numbers
+pub walked_once : {A : Type 0} {f : Decodes A} {bytes : List ℕ} {b : ℕ} {s : Here} {x y : A} {t u : Here} → b ≤ 8 * length bytes → WalkedAt f bytes b s x t → WalkedAt f bytes b s y u → (x ≡ y) × (t ≡ u)
 unfolding tape_of
-walked_once {A} {f} {s} {x} {y} {t} {u} W U =
-    let e : ◌≡◌ {A = A × Tape} (x, tape_at t) (y, tape_at u) = sym W.is ∙ U.is in
-    let same : tape_of s.source.bytes.now s.source.count t.source.place t.place ≡ tape_of s.source.bytes.now s.source.count u.source.place u.place =
-    (λ i. tape_of (sym W.bytes i) (sym W.count i) t.source.place t.place) ∙ ap (λ v. v.1) e ∙ (λ i. tape_of (U.bytes i) (U.count i) u.source.place u.place) in
-    let at = tape_settled s.source.bytes.now s.source.count t.source.place u.source.place t.place u.place s.lent (rw W.count at t.near) (rw U.count at u.near) same in
-    (ap (λ v. v.0) e, W.bytes ∙ sym U.bytes, W.count ∙ sym U.count, at, ap (λ v. v.1.place) e)
+walked_once {A} {f} {bytes} {b} {s} {x} {y} {t} {u} h W U =
+    let e : ◌≡◌ {A = A × Tape} (x, tape_of bytes b t.at t.place) (y, tape_of bytes b u.at u.place) = sym W.is ∙ U.is in
+    let at = tape_settled bytes b t.at u.at t.place u.place h W.near U.near (ap (λ v. v.1) e) in
+    (ap (λ v. v.0) e, (λ i. record { at = at i; place = ap (λ v. v.1.place) e i }))
+
+-- a walk over tapes is one over their bytes and numbers
+pub walked_at : {A : Type 0} {f : Decodes A} {s t : BitTape} {x : A} → Walked f s x t → WalkedAt f s.source.bytes.now s.source.count (here_of s) x (here_of t)
+walked_at {t = t} {x} W = record { is = W.is ∙ (λ i. (x, tape_of (W.bytes i) (W.count i) t.source.place t.place)); near = omega (arith, t.near, W.count) }
+
+-- over tapes
+pub tapes_once : {A : Type 0} {f : Decodes A} {s : BitTape} {x y : A} {t u : BitTape} → Walked f s x t → Walked f s y u
+    → (x ≡ y) × (t.source.bytes.now ≡ u.source.bytes.now) × (t.source.count ≡ u.source.count) × (t.source.place ≡ u.source.place) × (t.place ≡ u.place)
+tapes_once {s = s} W U =
+    let e = walked_once s.lent (walked_at W) (walked_at U) in
+    (e.0, W.bytes ∙ sym U.bytes, W.count ∙ sym U.count, ap (λ (h : Here). h.at) e.1, ap (λ (h : Here). h.place) e.1)

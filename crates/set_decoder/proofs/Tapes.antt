@@ -58,3 +58,11 @@ module _ {s t : BitTape} {one : Bool} (R : Bit s one t) where
 
     pub walked_settled : {A : Type 0} {f : Decodes A} {a : A} → f (tape_at s) ≡ (a, tape_at u) → Walked f s a u
     walked_settled e = record { is = e; bytes = bytes_stay; count = count_stays }
+
+-- a walk that leaves off at t leaves off at any tape of the same bits and place
+pub ended : {A : Type 0} {f : Decodes A} {s t u : BitTape} {a : A} → Walked f s a t → u.source ≡ t.source → u.place ≡ t.place → Walked f s a u
+ended {a = a} W e z = record {
+  is = W.is ∙ (λ i. (a, tape_of (sym e i).bytes.now (sym e i).count (sym e i).place (sym z i)));
+  bytes = ap (λ (s : BitSource). s.bytes.now) e ∙ W.bytes;
+  count = ap (λ (s : BitSource). s.count) e ∙ W.count;
+}

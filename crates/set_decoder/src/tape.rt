@@ -10,9 +10,9 @@ use source::BitSource;
 pub struct BitTape<'a> {
     pub source: BitSource<'a>,
     pub place: usize,
-    ghost lent: { source.count ≤ 8 * length source.bytes.now },
-    ghost missable: { source.count + 1 < 2 ^ 64 },
-    ghost near: { source.place ≤ source.count + 1 },
+    pub ghost lent: { source.count ≤ 8 * length source.bytes.now },
+    pub ghost missable: { source.count + 1 < 2 ^ 64 },
+    pub ghost near: { source.place ≤ source.count + 1 },
 }
 
 impl<'a> BitTape<'a> {

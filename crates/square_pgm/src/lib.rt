@@ -2,6 +2,7 @@
 #![tactic(auto)]
 
 ghost use Rattle.std.specs.Prelude.{◌≡◌, ◌<◌, unwrap_or, IfSome};
+ghost use Rattle.words.specs.Line.{stands};
 ghost use Rattle.square_pgm.specs.Sides.{shown_size, side_of};
 ghost use Rattle.square_pgm.specs.Text.{headed};
 
@@ -40,7 +41,8 @@ fn is_shown(k: u32) -> bool
 // The header of a square of side 2 ^ k, k from 1 to 6, with a promise in its comment. Else nothing is written.
 #[tactic(auto, unfolding(crate::specs::Sides::shown_size, crate::specs::Text::headed))]
 pub fn write_header(k: u32, promise: &[u8], line: &mut Line<'_>)
-    ensures { headed k promise.now line.old ≡ line.new }
+    ensures same_room { line.new.bytes.ghost_name ≡ line.old.bytes.ghost_name }
+    ensures line_value { headed k promise.now (stands line.old) ≡ stands line.new }
 {
     if !is_shown(k) {
         return;

@@ -3,6 +3,7 @@
 #![tactic(auto)]
 
 ghost use Rattle.std.specs.Prelude.{◌≡◌};
+ghost use Rattle.words.specs.Line.{stands};
 ghost use Rattle.title.specs.Title.{titled, is_long, shot_by, awaits, counted};
 
 use block::CHECKS;
@@ -21,7 +22,8 @@ pub struct Origin {
 // The verdict, the label, whether it is a thumbnail or softer, and the side.
 #[tactic(auto, unfolding(crate::specs::Title::titled, worth::specs::Worth::of_thumbnail))]
 pub fn put_title(label: &[u8], decoded: Decoded, line: &mut Line<'_>)
-    ensures { titled label.now decoded.k decoded.halvings decoded.softer decoded.unfinished line.old ≡ line.new }
+    ensures same_room { line.new.bytes.ghost_name ≡ line.old.bytes.ghost_name }
+    ensures line_value { titled label.now decoded.k decoded.halvings decoded.softer decoded.unfinished (stands line.old) ≡ stands line.new }
 {
     line.put(decoded.word());
     line.put(b" ");
@@ -44,7 +46,8 @@ pub fn is_long(decoded: Decoded) -> bool
 // The arm and its mount number, which edition 1 does not name, and the end of the title.
 #[tactic(auto, unfolding(crate::specs::Title::shot_by, crate::specs::Title::colon))]
 pub fn put_origin(long: bool, origin: Origin, line: &mut Line<'_>)
-    ensures { shot_by long (record { edition = origin.edition; arm = origin.arm; mount = origin.mount }) line.old ≡ line.new }
+    ensures same_room { line.new.bytes.ghost_name ≡ line.old.bytes.ghost_name }
+    ensures line_value { shot_by long (record { edition = origin.edition; arm = origin.arm; mount = origin.mount }) (stands line.old) ≡ stands line.new }
 {
     if origin.edition == 1 {
         line.put(b": ");
@@ -71,7 +74,8 @@ fn awaits_more(edition: u32, decoded: Decoded, bits: usize) -> bool
 // The blocks that were kept, and whether more were expected: said of every edition (`counted`).
 #[tactic(auto, unfolding(crate::specs::Title::counted, crate::specs::Title::plural, crate::specs::Title::expected))]
 pub fn put_blocks(edition: u32, decoded: Decoded, bits: usize, line: &mut Line<'_>)
-    ensures { counted edition decoded.blocks bits decoded.unfinished line.old ≡ line.new }
+    ensures same_room { line.new.bytes.ghost_name ≡ line.old.bytes.ghost_name }
+    ensures line_value { counted edition decoded.blocks bits decoded.unfinished (stands line.old) ≡ stands line.new }
 {
     let more = awaits_more(edition, decoded, bits);
     line.put_number(decoded.blocks as u64);

@@ -11,6 +11,7 @@ ghost use Rattle.levels.specs.Level.{Fitting};
 ghost use Rattle.refusals.specs.Numbers.{refusal_of};
 ghost use Rattle.transform.specs.Answers.{forward_answer, inverse_answer};
 
+use places::ZPlace;
 use refusals::Refusal;
 use sizes::Size;
 
@@ -89,7 +90,7 @@ fn copy(numbers: &[i32], room: &mut [i32])
     ensures { room.new ≡ numbers.now }
 {
     for (i, x) in room.iter_mut().enumerate() {
-        *x = numbers[i];
+        *x = places::at(numbers, places::place::<ZPlace>(i));
     }
 }
 

@@ -2,6 +2,7 @@
 #![tactic(auto)]
 
 ghost use Rattle.std.specs.Prelude.{◌≡◌};
+ghost use Rattle.words.specs.Line.{stands};
 ghost use Rattle.verdict.specs.Verdict.{share_of, running, planes, report_of};
 
 use title::{Origin, is_long, put_blocks, put_origin, put_title};
@@ -32,7 +33,8 @@ fn share(k: u32, place: usize) -> u64
 // Where planes are unfinished, how much of the next one is in.
 #[tactic(auto, unfolding(crate::specs::Verdict::running))]
 fn put_running(decoded: Decoded, place: usize, line: &mut Line<'_>)
-    ensures { running decoded.k decoded.unfinished place line.old ≡ line.new }
+    ensures same_room { line.new.bytes.ghost_name ≡ line.old.bytes.ghost_name }
+    ensures line_value { running decoded.k decoded.unfinished place (stands line.old) ≡ stands line.new }
 {
     if decoded.is_whole() {
         return;
@@ -44,7 +46,8 @@ fn put_running(decoded: Decoded, place: usize, line: &mut Line<'_>)
 // Planes, levels and bits, for those who want them.
 #[tactic(auto, unfolding(crate::specs::Verdict::planes))]
 fn put_planes(decoded: Decoded, depth: Depth, line: &mut Line<'_>)
-    ensures { planes decoded.k decoded.levels depth.planes decoded.unfinished depth.place depth.bits line.old ≡ line.new }
+    ensures same_room { line.new.bytes.ghost_name ≡ line.old.bytes.ghost_name }
+    ensures line_value { planes decoded.k decoded.levels depth.planes decoded.unfinished depth.place depth.bits (stands line.old) ≡ stands line.new }
 {
     let finished = depth.planes.saturating_sub(decoded.unfinished);
     line.put_figures(
@@ -73,7 +76,8 @@ pub fn report(
     ended: &[u8],
     line: &mut Line<'_>,
 )
-    ensures { report_of label.now decoded.k decoded.levels decoded.halvings decoded.softer (record { edition = origin.edition; arm = origin.arm; mount = origin.mount }) depth.planes decoded.blocks depth.bits decoded.unfinished depth.place ended.now line.old ≡ line.new }
+    ensures same_room { line.new.bytes.ghost_name ≡ line.old.bytes.ghost_name }
+    ensures line_value { report_of label.now decoded.k decoded.levels decoded.halvings decoded.softer (record { edition = origin.edition; arm = origin.arm; mount = origin.mount }) depth.planes decoded.blocks depth.bits decoded.unfinished depth.place ended.now (stands line.old) ≡ stands line.new }
 {
     put_title(label, decoded, line);
     put_origin(is_long(decoded), origin, line);

@@ -2,6 +2,7 @@
 use Rattle.std.specs.Prelude.{List, ◌++◌, ℕ, ◌+◌, leb, length, take, drop}
 use Rattle.paper.specs.Lists.{pick}
 use Rattle.pgm.specs.Ascii.{decimal}
+use Rattle.words.specs.declared.Line.{Line as Lent}
 
 pub record Line : Type 0 where
   pub bytes : List ℕ
@@ -9,6 +10,10 @@ pub record Line : Type 0 where
 
 abbrev pub on : List ℕ → ℕ → Line
 on bytes at = record { bytes = bytes; at = at }
+
+-- what stands in lent room, and the place of the next byte
+abbrev pub stands : Lent → Line
+stands l = on l.bytes.now l.at
 
 -- a text at the line's place, if there is room for all of it
 infixl 5 ◌puts◌

@@ -4,43 +4,36 @@
 
 ghost use Rattle.std.specs.Prelude.{◌≡◌, take};
 ghost use Rattle.paper.specs.Lists.{pick};
-ghost use Rattle.words.specs.Line.{on, ◌puts◌, figure};
+ghost use Rattle.words.specs.Line.{on, stands, ◌puts◌, figure};
 
-use std::marker::Model;
-
-// The room, and the place in it of the next byte. What has no room is left out: a place beyond the room has none.
+// The room, and the place in it of the next byte. What has no room is left out: a place beyond the room has none. It is no Model:
+// each function that is given a line says that the line keeps its room (`same_room`), so that a caller knows its bytes afterwards.
 #[derive(Drop)]
 pub struct Line<'a> {
-    bytes: &'a mut [u8],
-    at: usize,
-}
-
-impl<'a> Model for Line<'a> {
-    ghost use Rattle.words.specs.Line.{Line, on};
-
-    ghost Value = { Line };
-
-    ghost view = { λ l. on l.bytes.now l.at };
+    pub bytes: &'a mut [u8],
+    pub at: usize,
 }
 
 impl<'a> Line<'a> {
     // An empty line in this room.
     pub fn new(bytes: &'a mut [u8]) -> Self
-        ensures { result ≡ on bytes.old 0 }
+        ensures same_room { result.bytes.ghost_name ≡ bytes.entry.ghost_name }
+        ensures line_value { stands result ≡ on bytes.old 0 }
     {
         Line::over(bytes, 0)
     }
 
     // The line that goes on at place `at` of these bytes.
     pub fn over(bytes: &'a mut [u8], at: usize) -> Self
-        ensures { result ≡ on bytes.old at }
+        ensures same_room { result.bytes.ghost_name ≡ bytes.entry.ghost_name }
+        ensures line_value { stands result ≡ on bytes.old at }
     {
         Line { bytes, at }
     }
 
     // What has been written.
     pub fn text(&self) -> &[u8]
-        ensures { result.now ≡ take self.now.at self.now.bytes }
+        ensures { result.now ≡ take self.now.at self.now.bytes.now }
     {
         &self.bytes[..self.at.min(self.bytes.len())]
     }
@@ -48,7 +41,8 @@ impl<'a> Line<'a> {
     // A text, if there is room for all of it.
     #[tactic(auto, using(crate::proofs::Laws::no_room))]
     pub fn put(&mut self, text: &[u8])
-        ensures { self.old puts text.now ≡ self.new }
+        ensures same_room { self.new.bytes.ghost_name ≡ self.old.bytes.ghost_name }
+        ensures line_value { stands self.old puts text.now ≡ stands self.new }
     {
         let room = self.bytes.len();
         if self.at <= room && text.len() <= room - self.at {
@@ -60,7 +54,8 @@ impl<'a> Line<'a> {
 
     // A number in decimal.
     pub fn put_number(&mut self, number: u64)
-        ensures { self.old puts figure number ≡ self.new }
+        ensures same_room { self.new.bytes.ghost_name ≡ self.old.bytes.ghost_name }
+        ensures line_value { stands self.old puts figure number ≡ stands self.new }
     {
         let mut digits = [0u8; 20];
         let mut first = 19;
@@ -77,7 +72,8 @@ impl<'a> Line<'a> {
 
     // A text with a number behind it.
     pub fn put_figure(&mut self, text: &[u8], number: u64)
-        ensures { self.old puts text.now puts figure number ≡ self.new }
+        ensures same_room { self.new.bytes.ghost_name ≡ self.old.bytes.ghost_name }
+        ensures line_value { stands self.old puts text.now puts figure number ≡ stands self.new }
     {
         self.put(text);
         self.put_number(number);
@@ -85,7 +81,8 @@ impl<'a> Line<'a> {
 
     // Two texts, each with a number behind it.
     pub fn put_figures(&mut self, one: &[u8], first: u64, other: &[u8], second: u64)
-        ensures { self.old puts one.now puts figure first puts other.now puts figure second ≡ self.new }
+        ensures same_room { self.new.bytes.ghost_name ≡ self.old.bytes.ghost_name }
+        ensures line_value { stands self.old puts one.now puts figure first puts other.now puts figure second ≡ stands self.new }
     {
         self.put_figure(one, first);
         self.put_figure(other, second);
@@ -93,7 +90,8 @@ impl<'a> Line<'a> {
 
     // One of two texts.
     pub fn put_either(&mut self, first: bool, one: &[u8], other: &[u8])
-        ensures { self.old puts pick first one.now other.now ≡ self.new }
+        ensures same_room { self.new.bytes.ghost_name ≡ self.old.bytes.ghost_name }
+        ensures line_value { stands self.old puts pick first one.now other.now ≡ stands self.new }
     {
         self.put(if first { one } else { other });
     }

@@ -3,7 +3,7 @@
 
 ghost use Rattle.std.specs.Prelude.{◌≡◌, ◌-◌, eqb};
 ghost use Rattle.paper.specs.Sizes.{grey_limit};
-ghost use Rattle.words.specs.Line.{◌puts◌, figure};
+ghost use Rattle.words.specs.Line.{stands, ◌puts◌, figure};
 ghost use Rattle.worth.specs.Worth.{word, side_of, of_thumbnail, is_softer, of_softer, one_shot, kind, worth};
 
 use sizes::Size;
@@ -90,7 +90,8 @@ impl Decoded {
     // A text and the picture's side, said of a thumbnail alone.
     #[tactic(auto, using(words::proofs::Laws::put_nothing), unfolding(crate::specs::Worth::of_thumbnail))]
     pub fn put_of_side(self, text: &[u8], line: &mut Line<'_>)
-        ensures { line.old puts of_thumbnail self.halvings text.now puts of_thumbnail self.halvings (figure (side_of self.k)) ≡ line.new }
+        ensures same_room { line.new.bytes.ghost_name ≡ line.old.bytes.ghost_name }
+        ensures line_value { stands line.old puts of_thumbnail self.halvings text.now puts of_thumbnail self.halvings (figure (side_of self.k)) ≡ stands line.new }
     {
         if self.halvings != 0 {
             line.put_figure(text, side(self.k));
@@ -100,7 +101,8 @@ impl Decoded {
     // How far the greys can be off.
     #[tactic(auto, unfolding(crate::specs::Worth::worth))]
     pub fn put_worth(self, line: &mut Line<'_>)
-        ensures { worth self.levels self.halvings self.unfinished self.blocks line.old ≡ line.new }
+        ensures same_room { line.new.bytes.ghost_name ≡ line.old.bytes.ghost_name }
+        ensures line_value { worth self.levels self.halvings self.unfinished self.blocks (stands line.old) ≡ stands line.new }
     {
         if self.is_whole() {
             line.put(b"  every grey is right: the very ");

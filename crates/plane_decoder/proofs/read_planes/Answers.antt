@@ -1,5 +1,6 @@
 -- The invariant is what holds before each plane.
 use mathlib.Core.Path.{sym, ◌∙◌}
+use native.Mathlib.Omega.{arith}
 use Rattle.plane_decoder.proofs.Planes.{before_first, before_next, plane_room, plane_low, stopped, none_left}
 use Rattle.plane_decoder.proofs.read_planes.Goals as goal
 
@@ -18,7 +19,7 @@ pub returns-then-missed : goal.returns-then-missed
 returns-then-missed c = stopped c.loop-p.invariant c.loop-p-test.true _ _ (rw c.new.ensures at c.read_plane.ensures) (sym c.missed.ensures ∙ c.if-missed.true)
 
 pub loop-p-preserved : goal.loop-p-preserved
-loop-p-preserved c = before_next c.loop-p.invariant c.loop-p-test.true _ _ (rw c.new.ensures at c.read_plane.ensures) _ c.read_plane.auto.numbers (sym c.missed.ensures ∙ c.if-missed.false) c.next_plane.ensures.source c.next_plane.ensures.place
+loop-p-preserved c = before_next c.loop-p.invariant c.loop-p-test.true _ _ (rw c.new.ensures at c.read_plane.ensures) _ c.read_plane.auto.numbers (sym c.missed.ensures ∙ c.if-missed.false) c.next_plane.ensures.source (omega (arith, c.next_plane.ensures.place))
 
 pub returns : goal.returns
 returns c = none_left c.loop-p.invariant c.loop-p-test.false

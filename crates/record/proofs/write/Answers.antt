@@ -4,27 +4,18 @@ use mathlib.Core.Path.{◌≡◌, ap, ◌∙◌}
 use mathlib.Core.List.{◌++◌}
 use native.Mathlib.Omega.{arith}
 use lib.ListN.{take, drop}
-use Rattle.std.proofs.lemmas.Result.{err_from_is_err_and}
 use Rattle.paper.specs.Lists.{joined}
 use Rattle.paper.specs.Bits.{bits}
 use Rattle.paper.specs.Block.{Origin, block_bytes, named}
 use Rattle.paper.specs.Record.{block_of}
 use Rattle.paper.specs.Jobs.{writing_refusal}
-use Rattle.refusals.proofs.Numbers.{numbered}
 use Rattle.sizes.proofs.Ranges.{size_high, levels_few, planes_few}
 use Rattle.block.specs.Origins.{origin_of}
-use Rattle.block.proofs.Editions.{named_given}
+use Rattle.block.proofs.Editions.{edition_few, named_given}
 use Rattle.block.proofs.Blocks.{label_length}
 use Rattle.record_laws.specs.BothJobs.{write_accepted}
-use Rattle.record.proofs.Writing.{write_rows, write_refused, write_done, bits_numbered, blocks_numbered}
+use Rattle.record.proofs.Writing.{write_rows, write_done, bits_numbered, blocks_numbered}
 use Rattle.record.proofs.write.Goals as goal
-
-pub returns-in_err-judge_writing : goal.returns-in_err-judge_writing
-returns-in_err-judge_writing c =
-    let a = c.args in
-    let o : Origin = record { edition = a.edition; arm = a.arm; mount = a.mount } in
-    let p = err_from_is_err_and c.from_residual.result c.from_residual.ensures.1 in
-    rw (p.1, p.2) (write_refused a.k a.levels a.n o a.label.now a.bytes.now a.b a.room.now _ (write_rows a.k a.levels a.n o a.label.now a.bytes.now a.b a.room.now c.in_err-judge_writing.ensures) (numbered c.in_err-judge_writing.field-0.0))
 
 pub heading-h-requires : goal.heading-h-requires
 heading-h-requires c =
@@ -36,7 +27,7 @@ heading-h-requires c =
       k_bound = omega (arith, size_high _ ok.size);
       levels_bound = omega (arith, levels_few _ _ ok.levels);
       n_bound = omega (arith, planes_few _ ok.planes);
-      edition_value = ok.known;
+      edition_bound = omega (arith, edition_few _ ok.known);
       mount_value = ok.origin;
     }
 

@@ -1,11 +1,11 @@
 -- No bit or a 0, one more bit of a number that is 2T or more, or a sign bit that is there or is not.
-use mathlib.Core.Path.{◌∙◌, ap}
+use mathlib.Core.Path.{refl, ◌∙◌, ap}
 use Prim.Native.Nat.{◌+◌}
 use native.Mathlib.Omega.{arith}
 use lib.IntN.{nat_abs}
 use lib.Pow.{pow-lt}
 use Rattle.paper.specs.Walk.{negative, signed}
-use Rattle.set_decoder.proofs.Tapes.{bit_read, settles}
+use Rattle.set_decoder.proofs.Tapes.{bit_read, settles, ended}
 use Rattle.set_decoder.proofs.Numbers.{number_still, number_grown, number_unsigned, number_begun}
 use Rattle.set_decoder.proofs.Sign.{held, takes, takes_kept, kept_signed}
 use Rattle.set_decoder.proofs.read_number.Goals as goal
@@ -37,8 +37,8 @@ returns-then-missed c =
     let held = held x p c.requires.plane_bound in
     let e = c.bit.ensures in
     let b = c.bit-below.ensures in
-    number_unsigned p x (bit_read _ c.bit.new.self e.source e.place e.one) _ _ c.threshold-t.ensures.value (c.unsigned_abs.ensures.value ∙ ap nat_abs held) (bit_read _ c.bit-below.new.self b.source b.place b.one)
-    c.if-unsigned_abs-t.false c.if-not-bit.false c.missed.ensures _ held c.if-missed.true
+    ended (number_unsigned p x (bit_read _ c.bit.new.self e.source e.place e.one) _ _ c.threshold-t.ensures.value (c.unsigned_abs.ensures.value ∙ ap nat_abs held) (bit_read _ c.bit-below.new.self b.source b.place b.one)
+    c.if-unsigned_abs-t.false c.if-not-bit.false c.missed.ensures _ held c.if-missed.true) refl (omega arith)
 
 pub returns : goal.returns
 returns c =

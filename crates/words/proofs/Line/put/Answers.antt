@@ -5,7 +5,7 @@ use borrow.Rule.Slice.PartMut.{Post-is}
 use Rattle.words.proofs.Laws.{put_there}
 use Rattle.words.proofs.Line.put.Goals as goal
 
-pub returns-then-text-room : goal.returns-then-text-room
-returns-then-text-room c =
-    let at = c.self.inside.at in
-    rw (← c.self.view_is, c.copy_from_slice.ensures.after, Post-is at (at + length c.args.text.now) c.self.inside.bytes.now (omega arith)) (put_there _ _ _ (omega arith))
+pub returns-then-text-room-clause-line_value : goal.returns-then-text-room-clause-line_value
+returns-then-text-room-clause-line_value c =
+    let at = c.args.self.now.at in
+    rw (c.copy_from_slice.ensures.after, Post-is at (at + length c.args.text.now) c.args.self.now.bytes.now (omega arith)) (put_there _ _ _ (omega arith))

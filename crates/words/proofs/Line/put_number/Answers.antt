@@ -17,11 +17,11 @@ loop-rest-preserved c =
       stands = next_digit _ _ _ _ there v.stands some (omega arith);
     }
 
-pub returns : goal.returns
-returns c =
+pub returns-clause-line_value : goal.returns-clause-line_value
+returns-clause-line_value c =
     let v = c.loop-rest.invariant in
     let there : c.loop-rest.first < length c.loop-rest.digits = omega arith in
     let first = c.loop-rest.first in
     let digits = set c.loop-rest.digits first (48 + c.loop-rest.rest) in
     let behind : length (drop first digits) ≤ 20 - first = omega (arith, length-drop first digits, length-set c.loop-rest.digits first (48 + c.loop-rest.rest)) in
-    rw (← first_digit _ _ _ _ there v.stands (omega arith)) (rw (take_all (20 - first) (drop first digits) behind) at c.put.ensures)
+    rw (← first_digit _ _ _ _ there v.stands (omega arith)) (rw (take_all (20 - first) (drop first digits) behind) at c.put.ensures.line_value)
