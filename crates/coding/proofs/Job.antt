@@ -1,5 +1,5 @@
 -- The job: which row refuses it, what is right once no row does, and what it then hands over.
-use mathlib.Core.Path.{◌≡◌, sym, ◌∙◌}
+use mathlib.Core.Path.{◌≡◌, sym, ap, ◌∙◌}
 use mathlib.Core.Bool.{Bool, true, false}
 use mathlib.Core.List.{List}
 use Prim.Native.Nat.{ℕ, zero, suc, ◌*◌, ◌/◌, ◌^◌, ◌<◌, ◌≤◌, min}
@@ -8,13 +8,13 @@ use lib.Dec.{leb, eqb}
 use lib.IntN.{ℤ}
 use lib.ListN.{length, take}
 use borrow.Author.Tests.{eq-eqb, ne_eqb, eqb-true}
-use Rattle.std.specs.Prelude.{Err}
+use Rattle.std.specs.Prelude.{Result, Err}
 use Rattle.paper.specs.Sizes.{most_size, most_planes, numbers_in, unless}
 use Rattle.paper.specs.Walk.{largest, bits_needed, plane_count, Coder, walk_planes, depth, code_of}
 use Rattle.paper.specs.Bits.{laid}
 use Rattle.paper.specs.Jobs.{sizes_refusal, coding_refusal, written_of, coding_job}
 use Rattle.refusals.specs.declared.Refusal.{Refusal}
-use Rattle.refusals.specs.Numbers.{number_of}
+use Rattle.refusals.specs.Numbers.{number_of, refusal_of}
 use Rattle.refusals.proofs.Numbers.{numbered}
 use Rattle.sizes.proofs.Ranges.{size_high, levels_less}
 use Rattle.sizes.proofs.Refusals.{row_passed, rows_left, size_accepted, levels_accepted, sizes_left, sizes_stand, sizes_leave, refused_is, done_is}
@@ -76,9 +76,11 @@ planes_few xs = bits_few most_planes (largest xs)
 
 -- ---- what the job hands over
 module _ (k L : ℕ) (xs : List ℤ) (limit : ℕ) (bytes : List ℕ) where
-  pub job_refused : (r : Refusal) → number_of r ≡ coding_refusal k L xs → coding_job k L xs limit bytes ≡ coding_answer (Err r) bytes
+  -- a refusal by the rows is the job's answer, with the bytes as they were
+  pub code_unwritten : {A : Type 0} {answer : Result A Refusal} {refusal : Refusal} → answer ≡ Err refusal → refusal_of answer ≡ coding_refusal k L xs
+      → coding_job k L xs limit bytes ≡ coding_answer (Err refusal) bytes
   unfolding coding_job
-  job_refused r e = rw (sym e) (refused_is (number_of r) _ _ (numbered r))
+  code_unwritten {A} {answer} {refusal} is e = rw (sym e ∙ ap refusal_of is) (refused_is (number_of refusal) _ _ (numbered refusal))
 
   -- the sink begins with the bytes, at their first bit, and ends with the planes coded
   pub job_done : (n most : ℕ) (entry exit : BitSink) → 0 ≡ coding_refusal k L xs → n ≡ plane_count xs → most ≡ min limit (8 * length bytes)

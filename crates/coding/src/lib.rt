@@ -39,6 +39,7 @@ fn room(limit: usize, lent: usize) -> usize
 }
 
 // Codes wavelet numbers into the bytes lent: the first min(limit, 8 × bytes lent, total) bits.
+#[tactic(auto, using(crate::proofs::Job::code_unwritten))]
 pub fn code(
     k: u32,
     levels: u32,

@@ -7,14 +7,14 @@ use native.Mathlib.Omega.{arith}
 use lib.Dec.{leb, eqb}
 use borrow.Author.Tests.{eq-eqb, ne_eqb, leb-true, eqb-true}
 use lib.IntN.{ℤ}
-use Rattle.std.specs.Prelude.{Err}
+use Rattle.std.specs.Prelude.{Result, Err}
 use lib.ListN.{length, take}
 use Rattle.paper.specs.Sizes.{most_size, most_planes, planes_in, unless}
 use Rattle.paper.specs.Bits.{bits}
 use Rattle.paper.specs.Walk.{decode_of, Settled}
 use Rattle.paper.specs.Jobs.{sizes_refusal, decoding_refusal, decoding_job, settled_job}
 use Rattle.refusals.specs.declared.Refusal.{Refusal}
-use Rattle.refusals.specs.Numbers.{number_of}
+use Rattle.refusals.specs.Numbers.{number_of, refusal_of}
 use Rattle.refusals.proofs.Numbers.{numbered}
 use Rattle.decoding.specs.Answers.{decoding_answer}
 use Rattle.sizes.proofs.Ranges.{size_high, levels_less, planes_few}
@@ -66,9 +66,11 @@ right k L n numbers bytes b judged =
 
 -- ---- the job
 module _ (k L n : ℕ) (numbers : List ℤ) (bytes : List ℕ) (b : ℕ) where
-  pub job_refused : (r : Refusal) → number_of r ≡ decoding_refusal k L n numbers bytes b → decoding_job k L n numbers bytes b ≡ decoding_answer (Err r) numbers
+  -- a refusal by the rows is the job's answer, with the numbers as they were
+  pub decode_unsettled : {A : Type 0} {answer : Result A Refusal} {refusal : Refusal} → answer ≡ Err refusal → refusal_of answer ≡ decoding_refusal k L n numbers bytes b
+      → decoding_job k L n numbers bytes b ≡ decoding_answer (Err refusal) numbers
   unfolding decoding_job
-  job_refused r e = rw (sym e) (refused_is (number_of r) _ _ (numbered r))
+  decode_unsettled {A} {answer} {refusal} is e = rw (sym e ∙ ap refusal_of is) (refused_is (number_of refusal) _ _ (numbered refusal))
 
   pub job_done : (s : Settled) → 0 ≡ decoding_refusal k L n numbers bytes b → decode_of k L n (take b (bits bytes)) ≡ s → decoding_job k L n numbers bytes b ≡ settled_job s
   unfolding decoding_job

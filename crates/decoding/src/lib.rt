@@ -78,6 +78,7 @@ fn settle(k: u32, levels: u32, n: u32, numbers: &mut [i32], bytes: &[u8], b: usi
 
 // Decoding of the first b bits: writes all S² numbers, gives unfinished planes, bits read, and the lowest place that the running plane
 // has not settled.
+#[tactic(auto, using(crate::proofs::Judging::decode_unsettled))]
 pub fn decode(
     k: u32,
     levels: u32,

@@ -1,5 +1,5 @@
 -- What a refusal says of what was given for a softer picture, and what the job then leaves and answers.
-use mathlib.Core.Path.{◌≡◌, sym, ◌∙◌}
+use mathlib.Core.Path.{◌≡◌, sym, ap, ◌∙◌}
 use mathlib.Core.Bool.{Bool, true, false}
 use mathlib.Core.List.{List}
 use Prim.Native.Nat.{ℕ, ◌^◌, ◌≤◌}
@@ -11,9 +11,11 @@ use Rattle.paper.specs.Sizes.{most_size, most_levels, most_planes, planes_in, nu
 use Rattle.paper.specs.Square.{greys_of, pictured}
 use Rattle.paper.specs.Softer.{softened, softer_of}
 use Rattle.paper.specs.Jobs.{inverse_refusal, display_refusal, display_job}
+use Rattle.std.specs.Prelude.{Result, Err}
 use Rattle.refusals.specs.declared.Refusal.{Refusal}
-use Rattle.refusals.specs.Numbers.{number_of}
+use Rattle.refusals.specs.Numbers.{number_of, refusal_of}
 use Rattle.refusals.proofs.Numbers.{numbered}
+use Rattle.transform.specs.Answers.{inverse_answer}
 use Rattle.sizes.proofs.Ranges.{planes_few}
 use Rattle.sizes.proofs.Refusals.{row_passed}
 use Rattle.transform.proofs.Refusals.{picture_rows, inverse_accepted, job_refused, job_done}
@@ -55,8 +57,8 @@ module _ (k L p place : ℕ) (numbers : List ℤ) (picture : List ℕ) (room : L
   unfolding display_job softer_of
   display_done seen greys f g = job_done (display_refusal k L p place numbers picture room) _ _ passed ∙ rw (f, g)
 
--- and what a refusal leaves
-pub display_refused : (k L p place : ℕ) (numbers : List ℤ) (picture : List ℕ) (room : List ℤ) (r : Refusal) → number_of r ≡ display_refusal k L p place numbers picture room
-    → display_job k L p place numbers picture room ≡ record { refusal = number_of r; picture = picture; room = room }
+-- a refusal by the rows is the job's answer, with what was lent as it was
+pub display_unwritten : (k L p place : ℕ) (numbers : List ℤ) (picture : List ℕ) (room : List ℤ) {A : Type 0} {answer : Result A Refusal} {refusal : Refusal} → answer ≡ Err refusal
+    → refusal_of answer ≡ display_refusal k L p place numbers picture room → display_job k L p place numbers picture room ≡ inverse_answer {A = A} (Err refusal) picture room
 unfolding display_job
-display_refused k L p place numbers picture room r e = job_refused _ _ _ _ e (numbered r)
+display_unwritten k L p place numbers picture room {A} {answer} {refusal} is e = job_refused _ _ _ _ (sym (ap refusal_of is) ∙ e) (numbered refusal)

@@ -75,13 +75,15 @@ fn soften(unfinished: u32, place: usize, numbers: &[i32], out: &mut [i32])
     requires out_len { length out.old ≡ length numbers.now }
     ensures { out.new ≡ softened unfinished place numbers.now }
 {
-    for (i, x) in out.iter_mut().enumerate() {
-        let number = places::at(numbers, places::place::<ZPlace>(i));
-        *x = moved_up(number, unread_at(unfinished, place, i));
+    for i in 0..out.len() {
+        let z = places::place::<ZPlace>(i);
+        let x = places::at(numbers, z);
+        places::set(out, z, moved_up(x, unread_at(unfinished, place, i)));
     }
 }
 
 // Fills the softer picture. The working room ends with the greys before they are set into 0 to 255, in Z order.
+#[tactic(auto, using(crate::proofs::Refusals::display_unwritten))]
 pub fn display(
     k: u32,
     levels: u32,

@@ -7,6 +7,7 @@ ghost use Rattle.paper.specs.Lists.{made, at};
 ghost use Rattle.paper.specs.Square.{lowered, grey, pictured};
 ghost use Rattle.line.specs.Each.{Each, line_limit};
 
+use places::ZPlace;
 use sizes::Size;
 
 // A grey less 128.
@@ -22,9 +23,10 @@ pub fn lower(size: Size, picture: &[u8], xs: &mut [i32])
     requires xs_len { length xs.old ≡ 4 ^ size }
     ensures { xs.new ≡ lowered size picture.now }
 {
-    for (i, x) in xs.iter_mut().enumerate() {
-        let place = places::from_z(size, places::place(i));
-        *x = lower_grey(places::at(picture, place));
+    for i in 0..xs.len() {
+        let z = places::place(i);
+        let g = places::at(picture, places::from_z(size, z));
+        places::set(xs, z, lower_grey(g));
     }
 }
 
@@ -33,8 +35,10 @@ pub fn raise(xs: &mut [i32])
     requires { Each line_limit xs.old }
     ensures { xs.new ≡ made (length xs.old) (λ z. at xs.old z +ℤ pos 128) }
 {
-    for x in xs.iter_mut() {
-        *x += 128;
+    for i in 0..xs.len() {
+        let z = places::place::<ZPlace>(i);
+        let x = places::at(xs, z);
+        places::set(xs, z, x + 128);
     }
 }
 
@@ -51,8 +55,9 @@ pub fn set_picture(size: Size, greys: &[i32], picture: &mut [u8])
     requires picture_len { length picture.old ≡ 4 ^ size }
     ensures { picture.new ≡ pictured size greys.now }
 {
-    for (i, g) in picture.iter_mut().enumerate() {
-        let place = places::to_z(size, places::place(i));
-        *g = grey(places::at(greys, place));
+    for i in 0..picture.len() {
+        let p = places::place(i);
+        let x = places::at(greys, places::to_z(size, p));
+        places::set(picture, p, grey(x));
     }
 }

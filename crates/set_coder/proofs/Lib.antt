@@ -3,3 +3,4 @@ pub mod Test
 pub mod Numbers
 pub mod InOrder
 pub mod Set
+pub mod Parts

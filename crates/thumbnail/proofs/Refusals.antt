@@ -1,5 +1,5 @@
 -- What a refusal's number says of what was given for a thumbnail, and what the job then leaves and answers.
-use mathlib.Core.Path.{◌≡◌, sym, ◌∙◌}
+use mathlib.Core.Path.{◌≡◌, sym, ap, ◌∙◌}
 use mathlib.Core.Bool.{Bool, true, false, ◌&&◌}
 use mathlib.Core.List.{List}
 use Prim.Native.Nat.{ℕ, ◌-◌, ◌^◌, ◌<◌, ◌≤◌}
@@ -11,10 +11,15 @@ use borrow.Author.Tests.{leb-true}
 use Rattle.paper.specs.Sizes.{most_size, most_levels, levels_in, halvings_in, numbers_in, unless}
 use Rattle.paper.specs.Square.{greys_of, pictured, thumbnail_of}
 use Rattle.paper.specs.Jobs.{sizes_refusal, is_square, thumbnail_refusal, thumbnail_job}
+use Rattle.std.specs.Prelude.{Result, Err}
+use Rattle.refusals.specs.declared.Refusal.{Refusal}
+use Rattle.refusals.specs.Numbers.{refusal_of}
+use Rattle.refusals.proofs.Numbers.{numbered}
+use Rattle.transform.specs.Answers.{inverse_answer}
 use Rattle.sizes.proofs.Ranges.{both_second, size_high, levels_few, levels_less}
 use Rattle.sizes.proofs.Refusals.{row_passed, rows_left, size_accepted, levels_accepted, sizes_left}
 use Rattle.square_laws.specs.Thumbnail.{first_le, length_first_numbers}
-use Rattle.transform.proofs.Refusals.{sizes_refused, sizes_right, squares_are, job_done}
+use Rattle.transform.proofs.Refusals.{sizes_refused, sizes_right, squares_are, job_refused, job_done}
 
 -- ---- r
 pub halvings_few : (L r : ℕ) → halvings_in L r ≡ true → r ≤ L
@@ -96,3 +101,9 @@ module _ (k L r : ℕ) (numbers : List ℤ) (picture : List ℕ) (room : List �
       → thumbnail_job k L r numbers picture room ≡ record { refusal = 0; picture = seen; room = greys }
   unfolding thumbnail_job thumbnail_of
   thumbnail_done seen greys f g = job_done (thumbnail_refusal k L r numbers picture room) _ _ e ∙ rw (f, g, squared.2)
+
+-- a refusal by the rows is the job's answer, with what was lent as it was
+pub thumbnail_unwritten : (k L r : ℕ) (numbers : List ℤ) (picture : List ℕ) (room : List ℤ) {A : Type 0} {answer : Result A Refusal} {refusal : Refusal} → answer ≡ Err refusal
+    → refusal_of answer ≡ thumbnail_refusal k L r numbers picture room → thumbnail_job k L r numbers picture room ≡ inverse_answer {A = A} (Err refusal) picture room
+unfolding thumbnail_job
+thumbnail_unwritten k L r numbers picture room {A} {answer} {refusal} is e = job_refused _ _ _ _ (sym (ap refusal_of is) ∙ e) (numbered refusal)

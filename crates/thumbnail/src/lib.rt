@@ -47,6 +47,7 @@ fn judge(
 }
 
 // Fills the picture of side 2^(k - r). The working room ends with the greys before they are set into 0 to 255, in Z order.
+#[tactic(auto, using(crate::proofs::Refusals::thumbnail_unwritten))]
 pub fn thumbnail(
     k: u32,
     levels: u32,

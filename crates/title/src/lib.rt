@@ -10,8 +10,8 @@ use block::CHECKS;
 use words::Line;
 use worth::{Decoded, side};
 
-// What a record says of where its picture was shot. Edition 1 says nothing of it. Numbers, and not the enum of a block's heading, since
-// `report_of` says what is put for any of them.
+// What a record says of where its picture was shot. Edition 1 says nothing of it. Numbers of any size, since `report_of`
+// says what is put for each.
 #[derive(Clone, Copy)]
 pub struct Origin {
     pub edition: u32,

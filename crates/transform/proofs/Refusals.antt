@@ -1,5 +1,5 @@
 -- What a refusal's number says of what was given, and what a refused job and a job done leave and answer.
-use mathlib.Core.Path.{◌≡◌, refl, sym, ◌∙◌}
+use mathlib.Core.Path.{◌≡◌, refl, sym, ap, ◌∙◌}
 use mathlib.Core.Bool.{Bool, true, false, ◌&&◌}
 use mathlib.Core.List.{List}
 use Prim.Native.Nat.{ℕ, ◌^◌, ◌<◌, ◌≤◌}
@@ -12,6 +12,11 @@ use Rattle.paper.specs.Sizes.{most_size, most_levels, size_in, levels_in, number
 use Rattle.paper.specs.Square.{numbers_of, greys_of, pictured}
 use Rattle.paper.specs.Walk.{plane_count}
 use Rattle.paper.specs.Jobs.{sizes_refusal, is_square, forward_refusal, forward_job, picture_refusal, inverse_refusal, inverse_job}
+use Rattle.std.specs.Prelude.{Result, Err}
+use Rattle.refusals.specs.declared.Refusal.{Refusal}
+use Rattle.refusals.specs.Numbers.{refusal_of}
+use Rattle.refusals.proofs.Numbers.{numbered}
+use Rattle.transform.specs.Answers.{forward_answer, inverse_answer}
 use Rattle.sizes.proofs.Ranges.{both_first, both_second, size_high, levels_few, levels_less}
 use Rattle.sizes.proofs.Refusals.{row_passed, rows_left, size_accepted, levels_accepted, sizes_left, Rows, no_row, one_row, sizes_rows, sizes_stand, sizes_leave, refused_is, done_is}
 
@@ -43,6 +48,17 @@ job_refused refusal r refused done e h = rw (← e) (refused_is r refused done h
 
 pub job_done : {A : Type 0} (refusal : ℕ) (refused : ℕ → A) (done : A) → 0 ≡ refusal → judged refusal refused done ≡ done
 job_done refusal refused done e = done_is refusal refused done (sym e)
+
+-- a refusal by the rows is the job's answer, with what was lent as it was
+pub forward_unwritten : (k L : ℕ) (picture : List ℕ) (numbers : List ℤ) {A : Type 0} {answer : Result A Refusal} {refusal : Refusal} → answer ≡ Err refusal
+    → refusal_of answer ≡ forward_refusal k L picture numbers → forward_job k L picture numbers ≡ forward_answer (Err refusal) numbers
+unfolding forward_job
+forward_unwritten k L picture numbers {A} {answer} {refusal} is e = job_refused _ _ _ _ (sym (ap refusal_of is) ∙ e) (numbered refusal)
+
+pub inverse_unwritten : (k L : ℕ) (numbers : List ℤ) (picture : List ℕ) (room : List ℤ) {A : Type 0} {answer : Result A Refusal} {refusal : Refusal} → answer ≡ Err refusal
+    → refusal_of answer ≡ inverse_refusal k L numbers picture room → inverse_job k L numbers picture room ≡ inverse_answer {A = A} (Err refusal) picture room
+unfolding inverse_job
+inverse_unwritten k L numbers picture room {A} {answer} {refusal} is e = job_refused _ _ _ _ (sym (ap refusal_of is) ∙ e) (numbered refusal)
 
 -- ---- what no refusal says, in the order in which the work asks for it
 module _ (k L : ℕ) (picture : List ℕ) (numbers : List ℤ) (e : 0 ≡ forward_refusal k L picture numbers) where

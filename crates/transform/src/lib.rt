@@ -89,8 +89,9 @@ fn copy(numbers: &[i32], room: &mut [i32])
     requires { length room.old ≡ length numbers.now }
     ensures { room.new ≡ numbers.now }
 {
-    for (i, x) in room.iter_mut().enumerate() {
-        *x = places::at(numbers, places::place::<ZPlace>(i));
+    for i in 0..room.len() {
+        let z = places::place::<ZPlace>(i);
+        places::set(room, z, places::at(numbers, z));
     }
 }
 
@@ -110,6 +111,7 @@ pub fn rebuild(size: Size, levels: u32, numbers: &[i32], picture: &mut [u8], roo
 }
 
 // Fills the wavelet numbers, gives n.
+#[tactic(auto, using(crate::proofs::Refusals::forward_unwritten))]
 pub fn forward(k: u32, levels: u32, picture: &[u8], numbers: &mut [i32]) -> Result<u32, Refusal>
     ensures { forward_job k levels picture.now numbers.old ≡ forward_answer result numbers.new }
 {
@@ -119,6 +121,7 @@ pub fn forward(k: u32, levels: u32, picture: &[u8], numbers: &mut [i32]) -> Resu
 }
 
 // Fills the picture. The working room ends with the greys before they are set into 0 to 255, in Z order.
+#[tactic(auto, using(crate::proofs::Refusals::inverse_unwritten))]
 pub fn inverse(
     k: u32,
     levels: u32,

@@ -3,15 +3,9 @@ use mathlib.Core.Path.{◌≡◌, ◌∙◌}
 use native.Mathlib.Omega.{arith}
 use Rattle.std.proofs.Common.{rules}
 use Rattle.set_coder.specs.Coded.{stands}
-use Rattle.std.proofs.lemmas.Result.{err_from_is_err_and}
 use Rattle.shapes.proofs.Cuts.{square_of}
-use Rattle.coding.proofs.Job.{right, planes_few, job_refused, job_done}
+use Rattle.coding.proofs.Job.{right, planes_few, job_done}
 use Rattle.coding.proofs.code.Goals as goal
-
-pub returns-in_err-judge_coding : goal.returns-in_err-judge_coding
-returns-in_err-judge_coding c =
-    let p = err_from_is_err_and c.from_residual.result c.from_residual.ensures.1 in
-    rw (p.1, p.2) (job_refused c.args.k c.args.levels c.args.numbers.now c.args.limit _ _ c.in_err-judge_coding.ensures)
 
 pub plane_count-n-requires : goal.plane_count-n-requires
 plane_count-n-requires c = (right c.args.k c.args.levels c.args.numbers.now c.in_ok-judge_coding.ensures).range

@@ -1,12 +1,6 @@
 -- `decode` meets its contract.
-use Rattle.std.proofs.lemmas.Result.{err_from_is_err_and}
-use Rattle.decoding.proofs.Judging.{job_refused, job_done, right}
+use Rattle.decoding.proofs.Judging.{job_done, right}
 use Rattle.decoding.proofs.decode.Goals as goal
-
-pub returns-in_err-judge_decoding : goal.returns-in_err-judge_decoding
-returns-in_err-judge_decoding c =
-    let p = err_from_is_err_and c.from_residual.result c.from_residual.ensures.1 in
-    rw (p.1, p.2) (job_refused c.args.k c.args.levels c.args.n c.args.numbers.now c.args.bytes.now c.args.b _ c.in_err-judge_decoding.ensures)
 
 pub settle-requires : goal.settle-requires
 settle-requires c =

@@ -1,17 +1,11 @@
 -- `display` meets its contract.
 use mathlib.Core.Path.{sym, ap, ◌∙◌}
-use Rattle.std.proofs.lemmas.Result.{err_from_is_err_and}
 use lib.ListN.{length}
 use Rattle.paper.specs.Square.{greys_of, pictured}
 use Rattle.walk_laws.specs.Softer.{length_softened}
-use Rattle.display.proofs.Refusals.{accepted, planes_accepted, display_done, display_refused}
+use Rattle.display.proofs.Refusals.{accepted, planes_accepted, display_done}
 use Rattle.display.proofs.Softened.{softened_fit}
 use Rattle.display.proofs.display.Goals as goal
-
-pub returns-in_err-judge_display : goal.returns-in_err-judge_display
-returns-in_err-judge_display c =
-    let p = err_from_is_err_and c.from_residual.result c.from_residual.ensures.1 in
-    rw (p.1, p.2) (display_refused _ _ _ _ _ _ _ _ c.in_err-judge_display.ensures)
 
 pub soften-requires : goal.soften-requires
 soften-requires c =

@@ -19,14 +19,15 @@ pub moved_up-requires : goal.moved_up-requires
 moved_up-requires c =
     let a = c.args in
     let w = in_each a.numbers.now c.requires.numbers_value c.loop-i.i in
-    let e = c.at-number.ensures ∙ ap (at a.numbers.now) c.place.ensures in
+    let e = c.at-x.ensures ∙ ap (at a.numbers.now) c.place-z.ensures in
     record { within = rw (e, read w tt) w; u_le_most_planes = omega (arith, c.unread_at.ensures, unread_most a.unfinished a.place c.loop-i.i) }
 
 pub loop-i-preserved : goal.loop-i-preserved
 loop-i-preserved c =
     let w = in_each c.args.numbers.now c.requires.numbers_value c.loop-i.i in
-    let e = c.at-number.ensures ∙ ap (at c.args.numbers.now) c.place.ensures in
-    filled_more (pos 0) _ c.loop-i.i c.loop-i.out _ (omega arith) c.loop-i.invariant (to_z-of_z {w = w32} (record { sfits = c.moved_up.type_inv }) ∙ c.moved_up.ensures ∙ rw (e, read w tt, c.unread_at.ensures))
+    let e = c.at-x.ensures ∙ ap (at c.args.numbers.now) c.place-z.ensures in
+    rw (c.set.ensures, c.place-z.ensures)
+    (filled_more (pos 0) _ c.loop-i.i c.loop-i.out _ (omega arith) c.loop-i.invariant (to_z-of_z {w = w32} (record { sfits = c.moved_up.type_inv }) ∙ c.moved_up.ensures ∙ rw (e, read w tt, c.unread_at.ensures)))
 
 pub returns : goal.returns
 unfolding softened

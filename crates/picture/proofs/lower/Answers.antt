@@ -6,8 +6,8 @@ use Rattle.places.proofs.Round.{raster_below}
 use Rattle.list_laws.specs.Made.{filled_all}
 use Rattle.picture.proofs.lower.Goals as goal
 
-pub at-requires : goal.at-requires
-at-requires c = omega (arith, c.from_z-place.ensures, raster_below c.args.size c.place.result.0)
+pub at-g-requires : goal.at-g-requires
+at-g-requires c = omega (arith, c.from_z.ensures, raster_below c.args.size c.place-z.result.0)
 
 pub returns : goal.returns
 unfolding lowered

@@ -5,4 +5,4 @@ use Rattle.list_laws.specs.Made.{filled_all}
 use Rattle.picture.proofs.raise.Goals as goal
 
 pub returns : goal.returns
-returns c = filled_all (pos 0) _ _ c.loop-x.x-index c.loop-x.xs c.loop-x.invariant.0 (omega arith) c.loop-x.invariant.1
+returns c = filled_all (pos 0) _ _ c.loop-i.i c.loop-i.xs c.loop-i.invariant.0 (omega arith) c.loop-i.invariant.1

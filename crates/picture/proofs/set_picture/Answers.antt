@@ -5,8 +5,8 @@ use Rattle.places.proofs.Round.{z_below}
 use Rattle.list_laws.specs.Made.{filled_all}
 use Rattle.picture.proofs.set_picture.Goals as goal
 
-pub at-requires : goal.at-requires
-at-requires c = omega (arith, c.to_z-place.ensures, z_below c.args.size c.place.result.0)
+pub at-x-requires : goal.at-x-requires
+at-x-requires c = omega (arith, c.to_z.ensures, z_below c.args.size c.place-p.result.0)
 
 pub returns : goal.returns
 unfolding pictured

@@ -2,16 +2,8 @@
 use mathlib.Core.Path.{sym}
 use lib.Seq.{length-take-le}
 use native.Mathlib.Omega.{arith}
-use Rattle.std.proofs.lemmas.Result.{err_from_is_err_and}
-use Rattle.paper.specs.Jobs.{thumbnail_job}
-use Rattle.refusals.proofs.Numbers.{numbered}
-use Rattle.transform.proofs.Refusals.{job_refused}
 use Rattle.thumbnail.proofs.Refusals.{few, room_fits, accepted, thumbnail_done}
 use Rattle.thumbnail.proofs.thumbnail.Goals as goal
-
-pub returns-in_err-judge : goal.returns-in_err-judge
-unfolding thumbnail_job
-returns-in_err-judge c = let p = err_from_is_err_and c.from_residual.result c.from_residual.ensures.1 in rw (p.1, p.2) (job_refused _ _ _ _ c.in_err-judge.ensures (numbered _))
 
 pub overflow_sub-k : goal.overflow_sub-k
 overflow_sub-k c = omega (arith, few _ _ _ _ _ _ c.in_ok-judge.ensures)

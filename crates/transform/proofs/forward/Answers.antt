@@ -1,14 +1,7 @@
 -- `transform::forward` meets its contract.
-use Rattle.paper.specs.Jobs.{forward_job}
-use Rattle.std.proofs.lemmas.Result.{err_from_is_err_and}
-use Rattle.refusals.proofs.Numbers.{numbered}
 use Rattle.sizes.proofs.Ranges.{size_high}
-use Rattle.transform.proofs.Refusals.{job_refused, forward_accepted, forward_done}
+use Rattle.transform.proofs.Refusals.{forward_accepted, forward_done}
 use Rattle.transform.proofs.forward.Goals as goal
-
-pub returns-in_err-judge_forward : goal.returns-in_err-judge_forward
-unfolding forward_job
-returns-in_err-judge_forward c = let p = err_from_is_err_and c.from_residual.result c.from_residual.ensures.1 in rw (p.1, p.2) (job_refused _ _ _ _ c.in_err-judge_forward.ensures (numbered _))
 
 pub new-requires : goal.new-requires
 new-requires c = size_high _ (forward_accepted c.args.k c.args.levels c.args.picture.now c.args.numbers.now c.in_ok-judge_forward.ensures).0

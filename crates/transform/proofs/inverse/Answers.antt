@@ -1,13 +1,6 @@
 -- `transform::inverse` meets its contract.
-use Rattle.paper.specs.Jobs.{inverse_job}
-use Rattle.std.proofs.lemmas.Result.{err_from_is_err_and}
-use Rattle.refusals.proofs.Numbers.{numbered}
-use Rattle.transform.proofs.Refusals.{job_refused, inverse_accepted, inverse_done}
+use Rattle.transform.proofs.Refusals.{inverse_accepted, inverse_done}
 use Rattle.transform.proofs.inverse.Goals as goal
-
-pub returns-in_err-judge_inverse : goal.returns-in_err-judge_inverse
-unfolding inverse_job
-returns-in_err-judge_inverse c = let p = err_from_is_err_and c.from_residual.result c.from_residual.ensures.1 in rw (p.1, p.2) (job_refused _ _ _ _ c.in_err-judge_inverse.ensures (numbered _))
 
 pub new-requires : goal.new-requires
 new-requires c = (inverse_accepted c.args.k c.args.levels c.args.numbers.now c.args.picture.now c.args.room.now c.in_ok-judge_inverse.ensures).0
