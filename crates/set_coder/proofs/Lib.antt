@@ -3,4 +3,3 @@ pub mod Test
 pub mod Numbers
 pub mod InOrder
 pub mod Set
-pub mod Parts

@@ -1,11 +1,13 @@
 -- Thumbnails. The first numbers of L levels are the other L - r levels of the low band that r of them leave: so undone, they give
 -- that low band back. proofs/Thumbnail.antt says how near two of them are.
-use Rattle.std.specs.Prelude.{◌≡◌, List, ℕ, zero, suc, ◌-◌, ◌^◌, ◌≤◌, length, take, drop, ℤ, true}
+use Rattle.std.specs.Prelude.{◌≡◌, refl, List, [], ◌∷◌, ℕ, zero, suc, ◌-◌, ◌^◌, ◌≤◌, leb, length, take, drop, ℤ, nat_abs, true}
 use Rattle.std.proofs.Common.{ap, ◌∙◌, arith, not-suc-le-zero, lit<, take_all, length-take-le}
 use Rattle.std.proofs.Math.Nat.{pow-le-pow_right}
 use Rattle.std.proofs.lemmas.List.{take-append-le}
-use Rattle.paper.specs.Sizes.{numbers_in}
+use Rattle.paper.specs.Sizes.{number_limit, numbers_in}
 use Rattle.paper.specs.Square.{level_forward, on_first, levels_forward, levels_back, lowered, raised, numbers_of, greys_of, low_band, low_greys_of, thumbnail_of}
+use Rattle.list_laws.specs.Parts.{cut, from}
+use Rattle.sizes.proofs.Ranges.{both_second}
 use Rattle.line.specs.Rule.{Rule, Undoes}
 use Rattle.line.proofs.FiveThree.{five_three_undoes}
 use Rattle.square_laws.specs.Grid.{quarter_le}
@@ -22,6 +24,19 @@ length_first_numbers k r xs e = length-take-le (4 ^ (k - r)) xs (omega (arith, f
 
 pub first_in : (n : ℕ) (xs : List ℤ) → numbers_in xs ≡ true → numbers_in (take n xs) ≡ true
 first_in n xs e = each_in (take n xs) (take_each n xs (in_each xs e))
+
+-- and the others
+pub numbers_drop : (n : ℕ) (xs : List ℤ) → numbers_in xs ≡ true → numbers_in (drop n xs) ≡ true
+unfolding numbers_in
+numbers_drop zero xs e = e
+numbers_drop (suc n) [] e = refl
+numbers_drop (suc n) (x ∷ xs) e = numbers_drop n xs (both_second (leb (nat_abs x) number_limit) (numbers_in xs) e)
+
+pub cut_in : (a z : ℕ) (xs : List ℤ) → numbers_in xs ≡ true → numbers_in (cut a z xs) ≡ true
+cut_in a z xs e = first_in (z - a) (drop a xs) (numbers_drop a xs e)
+
+pub from_in : (a : ℕ) (xs : List ℤ) → numbers_in xs ≡ true → numbers_in (from a xs) ≡ true
+from_in a xs e = first_in (length xs - a) (drop a xs) (numbers_drop a xs e)
 
 -- ---- the low band
 pub length_low_band : (f : List ℤ → List ℤ) (r k : ℕ) (xs : List ℤ) → length xs ≡ 4 ^ k → length (low_band f r k xs) ≡ 4 ^ (k - r)
